@@ -1,0 +1,20 @@
+-- `integer::boolean::and` meets its contract. Assumes nothing.
+use borrow.Author.Needs.{needs}
+use borrow.Author.Tests.{eq-eqb, ne-eqb}
+use Rattle.integer.specs.Operations.{flag, truth, boolAnd}
+use Rattle.integer.proofs.boolean.and.Statement.{statement}
+use Rattle.integer.proofs.boolean.and.Tie as tie
+
+returns : tie.Need-returns
+unfolding flag truth boolAnd
+returns c = rw (eq-eqb _ 0 (c .if1 .taken))
+
+flag-requires : tie.Need-flag-requires
+flag-requires c κs = search needs
+
+returns-2 : tie.Need-returns-2
+unfolding truth boolAnd
+returns-2 c = rw (ne-eqb (c .before .before .args .a) 0 (c .before .if1 .left)) (c .flag .ensures)
+
+pub and-spec : {M : Type 1} → statement M
+and-spec = tie.close (tie.spec returns flag-requires returns-2)

@@ -1,0 +1,68 @@
+-- `integer::signed::right` meets its contract. Assumes nothing.
+use Prim.Native.Nat.{_^_}
+use mathlib.Core.Path.{sym, ap, _∙_}
+use borrow.Author.Needs.{needs}
+use borrow.Author.Tests.{lt-ltb, le-ltb}
+use lib.IntN.{ℤ}
+use lib.Signed.{shrZ}
+use mir.Syntax.{w64}
+use mir.Val.{SFits}
+use mir.ValLaws.{toZ-ofZ}
+use Rattle.integer.proofs.TwosComplement.{written, shift-fits, sign-test}
+use Rattle.integer.specs.Operations.{intSright}
+use Rattle.integer.proofs.signed.right.Statement.{statement}
+use Rattle.integer.proofs.signed.right.Tie as tie
+
+value-of-requires : tie.Need-value-of-requires
+value-of-requires c κs = search needs
+
+mul-if1 : tie.Need-mul-if1
+mul-if1 c = search needs
+
+cast-wrapped : tie.Need-cast-wrapped
+cast-wrapped c = search needs
+
+shr-wrapped : tie.Need-shr-wrapped
+shr-wrapped c = search needs
+
+wrapped-requires : tie.Need-wrapped-requires
+wrapped-requires c κs = search needs
+
+returns : tie.Need-returns
+unfolding intSright
+returns c =
+    let z = c .before .before .value-of in
+    let f : SFits w64 (z .result) = record { sfits = z .ok } in
+    rw (lt-ltb _ _ (c .before .if1 .taken))
+    (written _ _ _ _ (shift-fits (z .result) _ f) (ap (λ (k : ℤ). shrZ k (2 ^ c .before .before .before .args .b)) (toZ-ofZ w64 (z .result) f ∙ z .ensures)) (c .wrapped .ensures))
+
+largest-requires : tie.Need-largest-requires
+largest-requires c κs = search needs
+
+returns-2 : tie.Need-returns-2
+unfolding intSright
+returns-2 c =
+    let z = c .before .before .before .value-of in
+    let f : SFits w64 (z .result) = record { sfits = z .ok } in
+    rw (le-ltb _ _ (c .before .before .if1 .left), sym (sign-test (z .result) _ f (z .ensures)) ∙ c .before .if2 .taken) (c .largest .ensures)
+
+returns-3 : tie.Need-returns-3
+unfolding intSright
+returns-3 c =
+    let z = c .before .before .value-of in
+    let f : SFits w64 (z .result) = record { sfits = z .ok } in
+    rw (le-ltb _ _ (c .before .if1 .left), sym (sign-test (z .result) _ f (z .ensures)) ∙ c .if2 .left)
+
+pub right-spec : {M : Type 1} → statement M
+right-spec =
+    tie.close
+    (tie.spec
+    value-of-requires
+    mul-if1
+    cast-wrapped
+    shr-wrapped
+    wrapped-requires
+    returns
+    largest-requires
+    returns-2
+    returns-3)

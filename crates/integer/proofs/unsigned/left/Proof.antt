@@ -1,0 +1,28 @@
+-- `integer::unsigned::left` meets its contract. Assumes nothing.
+use mathlib.Core.Path.{_∙_}
+use borrow.Author.Needs.{needs}
+use borrow.Author.Tests.{lt-ltb, le-ltb}
+use Rattle.word.proofs.Powers.{low-part}
+use Rattle.integer.specs.Operations.{intLeft}
+use Rattle.integer.proofs.unsigned.left.Statement.{statement}
+use Rattle.integer.proofs.unsigned.left.Tie as tie
+
+mul-if1 : tie.Need-mul-if1
+mul-if1 c = search needs
+
+returns : tie.Need-returns
+unfolding intLeft
+returns c = rw (le-ltb _ _ (c .if1 .taken))
+
+shl-low : tie.Need-shl-low
+shl-low c = search needs
+
+low-requires : tie.Need-low-requires
+low-requires c κs = search needs
+
+returns-2 : tie.Need-returns-2
+unfolding intLeft
+returns-2 c = rw (lt-ltb _ _ (c .before .if1 .left)) (c .low .ensures ∙ low-part _ _ (c .before .before .pre))
+
+pub left-spec : {M : Type 1} → statement M
+left-spec = tie.close (tie.spec mul-if1 returns shl-low low-requires returns-2)

@@ -1,0 +1,23 @@
+-- `integer::unsigned::mult` meets its contract. Assumes nothing.
+use Prim.Native.Nat.{_*_}
+use mathlib.Core.Path.{_∙_}
+use borrow.Author.Needs.{needs}
+use Rattle.word.proofs.Powers.{low-part}
+use Rattle.integer.specs.Operations.{intMult}
+use Rattle.integer.proofs.unsigned.mult.Statement.{statement}
+use Rattle.integer.proofs.unsigned.mult.Tie as tie
+
+wrapping-mul-requires : tie.Need-wrapping-mul-requires
+wrapping-mul-requires c κs = search needs
+
+low-requires : tie.Need-low-requires
+low-requires c κs = search needs
+
+returns : tie.Need-returns
+unfolding intMult
+returns c =
+    let a = c .before .before .args in
+    c .low .ensures ∙ rw (c .before .wrapping-mul .ensures) (low-part (a .a * a .b) (a .size) (c .before .before .pre))
+
+pub mult-spec : {M : Type 1} → statement M
+mult-spec = tie.close (tie.spec wrapping-mul-requires low-requires returns)

@@ -1,0 +1,22 @@
+-- `integer::unsigned::sub` meets its contract. Assumes nothing.
+use mathlib.Core.Path.{_∙_}
+use native.Mathlib.Omega.{arith}
+use borrow.Author.Needs.{needs}
+use Rattle.integer.proofs.Whole.{sub-is}
+use Rattle.integer.proofs.unsigned.sub.Statement.{statement}
+use Rattle.integer.proofs.unsigned.sub.Tie as tie
+
+wrapping-sub-u64-requires : tie.Need-wrapping-sub-u64-requires
+wrapping-sub-u64-requires c κs = search needs
+
+low-requires : tie.Need-low-requires
+low-requires c κs = search needs
+
+returns : tie.Need-returns
+returns c =
+    let s = c .before .before in
+    c .low .ensures
+    ∙ sub-is (s .args .size) (s .args .a) (s .args .b) _ (s .pre) (s .fits .a .fits) (s .fits .b .fits) (omega (arith, c .before .wrapping-sub-u64 .ok)) (c .before .wrapping-sub-u64 .ensures)
+
+pub sub-spec : {M : Type 1} → statement M
+sub-spec = tie.close (tie.spec wrapping-sub-u64-requires low-requires returns)

@@ -1,0 +1,36 @@
+// Truth values: 0 is false, and every other number is true.
+ghost use mathlib.Core.Path.{_≡_};
+ghost use Rattle.integer.specs.Operations.{flag, boolXor, boolAnd, boolOr};
+
+pub fn flag(b: bool) -> u64
+    ensures { λ r. ⌜ r ≡ flag b ⌝ }
+{
+    if b { 1 } else { 0 }
+}
+
+pub fn xor(a: u64, b: u64) -> u64
+    ensures { λ r. ⌜ r ≡ boolXor a b ⌝ }
+{
+    if a == 0 {
+        return flag(b != 0);
+    }
+    flag(b == 0)
+}
+
+pub fn and(a: u64, b: u64) -> u64
+    ensures { λ r. ⌜ r ≡ boolAnd a b ⌝ }
+{
+    if a == 0 {
+        return 0;
+    }
+    flag(b != 0)
+}
+
+pub fn or(a: u64, b: u64) -> u64
+    ensures { λ r. ⌜ r ≡ boolOr a b ⌝ }
+{
+    if a == 0 {
+        return flag(b != 0);
+    }
+    1
+}

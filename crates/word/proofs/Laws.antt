@@ -1,0 +1,193 @@
+-- Laws of the values of bytes, over the size and the byte order. Assumes nothing.
+use mathlib.Core.Path.{_≡_, refl, sym, ap, _∙_}
+use mathlib.Core.Bool.{Bool, true, false}
+use mathlib.Core.List.{List, [], _∷_}
+use Prim.Native.Nat.{ℕ, zero, suc, _+_, _-_, _*_, _/_, _%_, _^_, _≤_, _<_}
+use native.Mathlib.Nat.{mod-eq-of-lt, pow-le-pow-right, pow-suc}
+use native.Mathlib.Omega.{arith}
+use borrow.Author.Tests.{ltb-true, ltb-false}
+use lib.Dec.{lit<, ltb}
+use lib.Pow.{pow-add, shl-exact}
+use lib.ListN.{length, getD, set, length-set}
+use lib.Seq.{sets, length-sets, getD-set-same, getD-set-other}
+use Rattle.word.specs.Sum.{sum, digit}
+use Rattle.word.specs.Word.{Bytes, part, significance, valueOf, bytesOf}
+use Rattle.word.proofs.Sums.{sum-cong, sum-mono, sum-reverse, tabulate-length, tabulate-at, tabulate-past, tabulate-cong, tabulate-is}
+use Rattle.word.proofs.Digits.{digit-lt, digits-lt, digits-sum, digit-of}
+
+-- ---- places and weights
+
+pub significance-lt : (big : Bool) (n i : ℕ) → i < n → significance big n i < n
+unfolding significance
+significance-lt false n i h = h
+significance-lt true n i h = omega arith
+
+-- the place of the byte with a weight is found as the weight of the byte at a place
+pub significance-twice : (big : Bool) (n i : ℕ) → i < n → significance big n (significance big n i) ≡ i
+unfolding significance
+significance-twice false n i h = refl
+significance-twice true n i h = omega arith
+
+-- a value, summed from the lowest weight on
+by-weight : (big : Bool) (n : ℕ) (d : ℕ → ℕ)
+    → sum n (λ i. d i * 256 ^ significance big n i) ≡ sum n (λ k. d (significance big n k) * 256 ^ k)
+unfolding significance
+by-weight false n d = refl
+by-weight true n d =
+    sum-reverse n (λ i. d i * 256 ^ (n - 1 - i))
+    ∙ sum-cong n (λ i. d (n - 1 - i) * 256 ^ (n - 1 - (n - 1 - i))) (λ k. d (n - 1 - k) * 256 ^ k)
+    (λ i h. let e : n - 1 - (n - 1 - i) ≡ i = omega arith in rw e)
+
+-- ---- parts
+
+pub part-length : (l : List ℕ) (at n : ℕ) → length (part l at n) ≡ n
+unfolding part
+part-length l at n = tabulate-length n (λ i. getD l (at + i) 0)
+
+pub part-at : (l : List ℕ) (at n i : ℕ) → i < n → getD (part l at n) i 0 ≡ getD l (at + i) 0
+unfolding part
+part-at l at n i h = tabulate-at n (λ k. getD l (at + k) 0) i h
+
+pub part-cong : (l m : List ℕ) (at n : ℕ) → ((i : ℕ) → i < n → getD l (at + i) 0 ≡ getD m (at + i) 0) → part l at n ≡ part m at n
+unfolding part
+part-cong l m at n h = tabulate-cong n (λ i. getD l (at + i) 0) (λ i. getD m (at + i) 0) h
+
+pub part-bytes : (l : List ℕ) (at n : ℕ) → Bytes l → Bytes (part l at n)
+unfolding part
+part-bytes l at n h i = by (ltb i n) refl
+  where
+    by : (t : Bool) → ltb i n ≡ t → getD (part l at n) i 0 < 256
+    by true e = rw (tabulate-at n (λ k. getD l (at + k) 0) i (ltb-true i n e)) (h (at + i))
+    by false e = rw (tabulate-past n (λ k. getD l (at + k) 0) i (ltb-false i n e)) (lit< tt)
+
+-- ---- stores
+
+-- what lies outside a run of stores stays
+pub stored-before : (l : List ℕ) (at : ℕ) (vs : List ℕ) (j : ℕ) → j < at → getD (sets l at vs) j 0 ≡ getD l j 0
+stored-before l at [] j h = refl
+stored-before l at (v ∷ vs) j h =
+    stored-before (set l at v) (suc at) vs j (omega arith) ∙ getD-set-other l at j v 0 (λ e. let z : ⊥ = omega arith in z)
+
+pub stored-after : (l : List ℕ) (at : ℕ) (vs : List ℕ) (j : ℕ) → at + length vs ≤ j → getD (sets l at vs) j 0 ≡ getD l j 0
+stored-after l at [] j h = refl
+stored-after l at (v ∷ vs) j h =
+    stored-after (set l at v) (suc at) vs j (omega arith) ∙ getD-set-other l at j v 0 (λ e. let z : ⊥ = omega arith in z)
+
+-- what lies inside is what was stored
+pub stored-at : (l : List ℕ) (at : ℕ) (vs : List ℕ) (k : ℕ) → at + length vs ≤ length l → k < length vs
+    → getD (sets l at vs) (at + k) 0 ≡ getD vs k 0
+stored-at l at [] k h i = absurd (let z : ⊥ = omega arith in z)
+stored-at l at (v ∷ vs) zero h i =
+    let e : at + 0 ≡ at = omega arith in
+    rw e (stored-before (set l at v) (suc at) vs at (omega arith) ∙ getD-set-same l at v 0 (omega arith))
+stored-at l at (v ∷ vs) (suc k) h i =
+    let e : at + suc k ≡ suc at + k = omega arith in
+    let fits : suc at + length vs ≤ length (set l at v) = rw length-set (omega arith) in
+    rw e (stored-at (set l at v) (suc at) vs k fits (omega arith))
+
+pub stored-part : (l : List ℕ) (at : ℕ) (vs : List ℕ) → at + length vs ≤ length l → part (sets l at vs) at (length vs) ≡ vs
+unfolding part
+stored-part l at vs h =
+    tabulate-is (length vs) (λ i. getD (sets l at vs) (at + i) 0) vs refl (λ i k. stored-at l at vs i h k)
+
+pub stored-length : (l : List ℕ) (at : ℕ) (vs : List ℕ) → length (sets l at vs) ≡ length l
+stored-length l at vs = length-sets l at vs
+
+-- ---- values and bytes
+
+pub value-lt : (big : Bool) (bs : List ℕ) → Bytes bs → valueOf big bs < 256 ^ length bs
+unfolding valueOf
+value-lt big bs h =
+    rw (by-weight big (length bs) (λ i. getD bs i 0))
+    (digits-lt 256 (lit< tt) (length bs) (λ k. getD bs (significance big (length bs) k) 0) (λ i l. h (significance big (length bs) i)))
+
+pub bytes-length : (big : Bool) (n v : ℕ) → length (bytesOf big n v) ≡ n
+unfolding bytesOf
+bytes-length big n v = tabulate-length n (λ i. digit 256 v (significance big n i))
+
+pub bytes-at : (big : Bool) (n v i : ℕ) → i < n → getD (bytesOf big n v) i 0 ≡ digit 256 v (significance big n i)
+unfolding bytesOf
+bytes-at big n v i h = tabulate-at n (λ k. digit 256 v (significance big n k)) i h
+
+pub bytes-bytes : (big : Bool) (n v : ℕ) → Bytes (bytesOf big n v)
+unfolding bytesOf
+bytes-bytes big n v i = by (ltb i n) refl
+  where
+    by : (t : Bool) → ltb i n ≡ t → getD (bytesOf big n v) i 0 < 256
+    by true e = rw (bytes-at big n v i (ltb-true i n e)) (digit-lt 256 (lit< tt) v (significance big n i))
+    by false e = rw (tabulate-past n (λ k. digit 256 v (significance big n k)) i (ltb-false i n e)) (lit< tt)
+
+-- reading what was written gives the number, but for a multiple of 256^n
+pub read-written : (big : Bool) (n v : ℕ) → valueOf big (bytesOf big n v) ≡ v % 256 ^ n
+unfolding valueOf
+read-written big n v =
+    rw (bytes-length big n v)
+    (sum-cong n (λ i. getD (bytesOf big n v) i 0 * 256 ^ significance big n i) (λ i. digit 256 v (significance big n i) * 256 ^ significance big n i)
+    (λ i h. rw (bytes-at big n v i h))
+    ∙ by-weight big n (λ i. digit 256 v (significance big n i))
+    ∙ sum-cong n (λ k. digit 256 v (significance big n (significance big n k)) * 256 ^ k) (λ k. digit 256 v k * 256 ^ k)
+    (λ k h. rw (significance-twice big n k h))
+    ∙ digits-sum 256 (lit< tt) n v)
+
+pub read-written-fits : (big : Bool) (n v : ℕ) → v < 256 ^ n → valueOf big (bytesOf big n v) ≡ v
+read-written-fits big n v h = read-written big n v ∙ mod-eq-of-lt h
+
+-- writing what was read gives the bytes back
+pub written-read : (big : Bool) (bs : List ℕ) → Bytes bs → bytesOf big (length bs) (valueOf big bs) ≡ bs
+unfolding bytesOf valueOf
+written-read big bs h =
+    tabulate-is (length bs) (λ i. digit 256 (valueOf big bs) (significance big (length bs) i)) bs refl
+    (λ i l.
+    rw (by-weight big (length bs) (λ k. getD bs k 0))
+    (digit-of 256 (lit< tt) (length bs) (λ k. getD bs (significance big (length bs) k) 0) (λ k m. h (significance big (length bs) k))
+    (significance big (length bs) i) (significance-lt big (length bs) i l)
+    ∙ ap (λ (k : ℕ). getD bs k 0) (significance-twice big (length bs) i l)))
+
+-- ---- what gather and scatter do in a turn
+
+eight : (k : ℕ) → 8 * k + 8 ≡ 8 * suc k
+eight k = omega arith
+
+pub pow-bits : (n : ℕ) → 256 ^ n ≡ 2 ^ (8 * n)
+pow-bits zero = refl
+pow-bits (suc n) = pow-suc 256 n ∙ ap (λ (x : ℕ). x * 256) (pow-bits n) ∙ sym (pow-add 2 (8 * n) 8) ∙ ap (λ (x : ℕ). 2 ^ x) (eight n)
+
+-- a byte moved up to its weight
+pub shifted : (b k : ℕ) → b < 256 → k < 8 → (b * 2 ^ (8 * k)) % 2 ^ 64 ≡ b * 256 ^ k
+shifted b k hb hk = shl-exact {a = b} 8 (8 * k) 64 hb (omega arith) ∙ ap (λ (x : ℕ). b * x) (sym (pow-bits k))
+
+value-part : (big : Bool) (l : List ℕ) (at n : ℕ) → valueOf big (part l at n) ≡ sum n (λ i. getD l (at + i) 0 * 256 ^ significance big n i)
+unfolding valueOf
+value-part big l at n =
+    rw (part-length l at n)
+    (sum-cong n (λ i. getD (part l at n) i 0 * 256 ^ significance big n i) (λ i. getD l (at + i) 0 * 256 ^ significance big n i)
+    (λ i h. rw (part-at l at n i h)))
+
+-- the first i bytes of n, by their weights
+unfoldable pub gathered : (big : Bool) (l : List ℕ) (at n i : ℕ) → ℕ
+gathered big l at n i = sum i (λ j. getD l (at + j) 0 * 256 ^ significance big n j)
+
+module _ (big : Bool) (l : List ℕ) (at n : ℕ) where
+  pub gathered-none : gathered big l at n 0 ≡ 0
+  unfolding gathered sum
+  gathered-none = refl
+
+  pub gathered-more : (i : ℕ) → gathered big l at n (suc i) ≡ gathered big l at n i + getD l (at + i) 0 * 256 ^ significance big n i
+  unfolding gathered sum
+  gathered-more i = refl
+
+  pub gathered-all : gathered big l at n n ≡ valueOf big (part l at n)
+  unfolding gathered
+  gathered-all = sym (value-part big l at n)
+
+  pub gathered-fits : n ≤ 8 → Bytes l → (i : ℕ) → i ≤ n → gathered big l at n i < 2 ^ 64
+  unfolding gathered
+  gathered-fits h b i k =
+      let whole : valueOf big (part l at n) < 256 ^ length (part l at n) = value-lt big (part l at n) (part-bytes l at n b) in
+      let size : 256 ^ length (part l at n) ≤ 2 ^ 64 = rw (part-length l at n) (pow-le-pow-right {n = 256} (lit< tt) h) in
+      omega (arith, sum-mono i n (λ j. getD l (at + j) 0 * 256 ^ significance big n j) k, value-part big l at n)
+
+-- the byte that scatter writes at place i
+pub scattered : (big : Bool) (n v i : ℕ) → i < n → v / 2 ^ (8 * significance big n i) % 256 ≡ getD (bytesOf big n v) i 0
+unfolding digit
+scattered big n v i h = rw (← (pow-bits (significance big n i))) (sym (bytes-at big n v i h))

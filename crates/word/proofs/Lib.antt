@@ -1,0 +1,5 @@
+pub mod Sums
+pub mod Digits
+pub mod Laws
+pub mod Powers
+pub mod Tests

@@ -1,0 +1,66 @@
+-- Laws of sums and tabulated lists. Assumes nothing.
+use mathlib.Core.Path.{_≡_, refl, sym, ap, ap₂, _∙_}
+use mathlib.Core.List.{List, _∷_}
+use Prim.Native.Nat.{ℕ, zero, suc, _+_, _-_, _≤_, _<_}
+use native.Mathlib.Nat.{le-refl}
+use native.Mathlib.Decide.{le-ind}
+use native.Mathlib.Omega.{arith}
+use lib.ListN.{length, getD, List·getD-eq-default}
+use lib.Seq.{ext-getD}
+use Rattle.word.specs.Sum.{sum, tabulate}
+
+pub sum-cong : (n : ℕ) (f g : ℕ → ℕ) → ((i : ℕ) → i < n → f i ≡ g i) → sum n f ≡ sum n g
+unfolding sum
+sum-cong zero f g h = refl
+sum-cong (suc n) f g h = ap₂ (λ (a b : ℕ). a + b) (sum-cong n f g (λ i l. h i (omega arith))) (h n (omega arith))
+
+pub sum-add : (n : ℕ) (f g : ℕ → ℕ) → sum n (λ i. f i + g i) ≡ sum n f + sum n g
+unfolding sum
+sum-add zero f g = refl
+sum-add (suc n) f g = omega (arith, sum-add n f g)
+
+-- a shorter sum is no larger
+pub sum-mono : (n m : ℕ) (f : ℕ → ℕ) → n ≤ m → sum n f ≤ sum m f
+unfolding sum
+sum-mono n m f h = le-ind (λ (k : ℕ). sum n f ≤ sum k f) (le-refl (sum n f)) (λ k l e. omega arith) m h
+
+sum-head : (n : ℕ) (f : ℕ → ℕ) → sum (suc n) f ≡ f 0 + sum n (λ i. f (suc i))
+unfolding sum
+sum-head zero f = omega arith
+sum-head (suc n) f = omega (arith, sum-head n f)
+
+-- the same terms, from the last to the first
+pub sum-reverse : (n : ℕ) (f : ℕ → ℕ) → sum n f ≡ sum n (λ i. f (n - 1 - i))
+unfolding sum
+sum-reverse zero f = refl
+sum-reverse (suc n) f =
+    let last : suc n - 1 - 0 ≡ n = omega arith in
+    let rest : sum n (λ i. f (n - 1 - i)) ≡ sum n (λ i. f (suc n - 1 - suc i)) =
+    sum-cong n (λ i. f (n - 1 - i)) (λ i. f (suc n - 1 - suc i)) (λ i l. ap f (omega arith)) in
+    omega (arith, sum-reverse n f, rest, sum-head n (λ i. f (suc n - 1 - i)), ap f last)
+
+pub tabulate-length : (n : ℕ) (f : ℕ → ℕ) → length (tabulate n f) ≡ n
+unfolding tabulate
+tabulate-length zero f = refl
+tabulate-length (suc n) f = ap suc (tabulate-length n (λ i. f (suc i)))
+
+pub tabulate-at : (n : ℕ) (f : ℕ → ℕ) (i : ℕ) → i < n → getD (tabulate n f) i 0 ≡ f i
+unfolding tabulate
+tabulate-at zero f i h = absurd (let z : ⊥ = omega arith in z)
+tabulate-at (suc n) f zero h = refl
+tabulate-at (suc n) f (suc i) h = tabulate-at n (λ k. f (suc k)) i (omega arith)
+
+pub tabulate-past : (n : ℕ) (f : ℕ → ℕ) (i : ℕ) → n ≤ i → getD (tabulate n f) i 0 ≡ 0
+tabulate-past n f i h = List·getD-eq-default (tabulate n f) 0 (rw tabulate-length h)
+
+pub tabulate-cong : (n : ℕ) (f g : ℕ → ℕ) → ((i : ℕ) → i < n → f i ≡ g i) → tabulate n f ≡ tabulate n g
+unfolding tabulate
+tabulate-cong zero f g h = refl
+tabulate-cong (suc n) f g h =
+    ap₂ (λ (a : ℕ) (l : List ℕ). a ∷ l) (h 0 (omega arith)) (tabulate-cong n (λ i. f (suc i)) (λ i. g (suc i)) (λ i l. h (suc i) (omega arith)))
+
+-- a list is what its entries are
+pub tabulate-is : (n : ℕ) (f : ℕ → ℕ) (l : List ℕ) → length l ≡ n → ((i : ℕ) → i < n → f i ≡ getD l i 0) → tabulate n f ≡ l
+tabulate-is n f l e h =
+    ext-getD 0 (tabulate n f) l (tabulate-length n f ∙ sym e)
+    (λ i k. let b : i < n = omega (arith, tabulate-length n f) in tabulate-at n f i b ∙ h i b)

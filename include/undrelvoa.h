@@ -1,0 +1,79 @@
+/* The C interface of Undrelvoa, the proved p-code interpreter.
+ *
+ * Link target/staticlib/libexports.a, which `rt staticlib exports` makes.
+ *
+ * Every function takes every input. It answers 0 when it has done its work, or else the number that
+ * paper 01 gives to the fault it found; where several faults are present, the lowest number. A call
+ * that answers another number than 0 has changed no buffer. Numbers used here:
+ *
+ *   10 SETTING  a byte order that is neither 0 nor 1
+ *   11 LENGTH   a lent buffer that is too short to hold the result
+ *   21 HEAD     an opcode out of range
+ *   22 SHAPE    a size that is not 1 to 8, or an operand present or absent against the manual
+ *   24 RANGE    bytes beyond the end of the buffer, or a value that is not below 256^size
+ *   25 SIZE     sizes that the operation does not allow together
+ *   33 ZERO     a divisor of 0
+ *
+ * A buffer is a pointer and the number of its elements. The pointer of an empty buffer is not read,
+ * but must not be NULL. Buffers of one call must not overlap.
+ */
+#ifndef UNDRELVOA_H
+#define UNDRELVOA_H
+
+#include <stddef.h>
+#include <stdint.h>
+
+#ifdef __cplusplus
+extern "C" {
+#endif
+
+/* The value of an integer operation.
+ *
+ *   opcode       10 (PIECE) to 42 (BOOL_OR), as paper 01 numbers them
+ *   output_size  bytes of the output, 1 to 8
+ *   size0        bytes of input0, 1 to 8
+ *   size1        bytes of input1, 1 to 8, or 0 for an operation that has no input1
+ *   a            the value of input0, below 256^size0
+ *   b            the value of input1, below 256^size1 (so 0 for an operation that has no input1)
+ *   result       result[0] becomes the value of the output; further words stay as they are
+ *   result_len   words of result, at least 1
+ *
+ * Answers 0, 11, 21, 22, 24, 25 or 33.
+ */
+uint64_t undrelvoa_value(uint64_t opcode, uint64_t output_size, uint64_t size0, uint64_t size1,
+                         uint64_t a, uint64_t b, uint64_t *result, size_t result_len);
+
+/* The value of the `size` bytes at `offset` of a buffer.
+ *
+ *   order        byte order: 0 little, 1 big
+ *   bytes        the buffer, only read
+ *   bytes_len    its bytes
+ *   offset       where the value starts
+ *   size         its bytes, 1 to 8; offset + size is at most bytes_len, summed without wrapping
+ *   result       result[0] becomes the value; further words stay as they are
+ *   result_len   words of result, at least 1
+ *
+ * Answers 0, 10, 11, 22 or 24.
+ */
+uint64_t undrelvoa_gather(uint64_t order, const uint8_t *bytes, size_t bytes_len, uint64_t offset,
+                          uint64_t size, uint64_t *result, size_t result_len);
+
+/* Writes a value as the `size` bytes at `offset` of a buffer; every other byte stays as it is.
+ *
+ *   order        byte order: 0 little, 1 big
+ *   bytes        the buffer, written
+ *   bytes_len    its bytes
+ *   offset       where the value starts
+ *   size         its bytes, 1 to 8; offset + size is at most bytes_len, summed without wrapping
+ *   value        the value, below 256^size
+ *
+ * Answers 0, 10, 22 or 24.
+ */
+uint64_t undrelvoa_scatter(uint64_t order, uint8_t *bytes, size_t bytes_len, uint64_t offset,
+                           uint64_t size, uint64_t value);
+
+#ifdef __cplusplus
+}
+#endif
+
+#endif

@@ -1,0 +1,215 @@
+//! `undrelvoa_gather` and `undrelvoa_scatter` and the second program: values in a buffer, read and
+//! written in either byte order, and calls that are refused.
+
+use compare::agreement::{check_gather, check_scatter, GuardedBuffer, Tally, MOST_RESULT_WORDS};
+use compare::inputs::{first_value_too_large, largest_value, GOOD_AND_BAD_SIZES, SIZES};
+use compare::random::Random;
+use compare::{gather, scatter};
+use reference::answers::Place;
+
+const RANDOM_CALLS: u64 = 500_000;
+const LONGEST_SMALL_BUFFER: u64 = 20;
+
+const GOOD_ORDERS: [u64; 2] = [0, 1];
+const GOOD_AND_BAD_ORDERS: [u64; 6] = [0, 1, 2, 256, (1 << 32) + 1, u64::MAX];
+
+/// Offsets that wrap when a size is added, or fit when cut to fewer bits.
+const LARGE_OFFSETS: [u64; 16] = [
+    1 << 16,
+    1 << 32,
+    (1 << 32) + 1,
+    1 << 63,
+    (1 << 63) + 1,
+    u64::MAX - 10,
+    u64::MAX - 9,
+    u64::MAX - 8,
+    u64::MAX - 7,
+    u64::MAX - 6,
+    u64::MAX - 5,
+    u64::MAX - 4,
+    u64::MAX - 3,
+    u64::MAX - 2,
+    u64::MAX - 1,
+    u64::MAX,
+];
+
+/// Every order, offset and size to try on a small buffer of `len` bytes.
+fn places(len: u64) -> Vec<Place> {
+    let mut places = Vec::new();
+    for order in GOOD_AND_BAD_ORDERS {
+        for size in GOOD_AND_BAD_SIZES {
+            for offset in (0..=len + 10).chain(LARGE_OFFSETS) {
+                places.push(Place { order, offset, size });
+            }
+        }
+    }
+    places
+}
+
+/// A place that is taken more often than not, on a buffer of `len` bytes.
+fn random_place(len: u64, random: &mut Random) -> Place {
+    let order = if random.once_in(10) {
+        random.pick(&GOOD_AND_BAD_ORDERS)
+    } else {
+        random.pick(&GOOD_ORDERS)
+    };
+    let size = if random.once_in(10) {
+        random.pick(&GOOD_AND_BAD_SIZES)
+    } else {
+        1 + random.below(*SIZES.end())
+    };
+    let offset =
+        if random.once_in(10) { random.pick(&LARGE_OFFSETS) } else { random.below(len + 1) };
+    Place { order, offset, size }
+}
+
+/// Values to write, for any size: those at its borders and one too large, or any for a bad size.
+fn values_to_write(size: u64, random: &mut Random) -> Vec<u64> {
+    let mut values = vec![0, 1, u64::MAX, random.word()];
+    if SIZES.contains(&size) {
+        values.extend([largest_value(size), random.operand(size), random.operand(size)]);
+        values.extend(first_value_too_large(size));
+    }
+    values
+}
+
+/// A value that mostly fits the size.
+fn random_value(size: u64, random: &mut Random) -> u64 {
+    if !SIZES.contains(&size) || random.once_in(10) {
+        return random.word();
+    }
+    if random.once_in(10) {
+        return first_value_too_large(size).unwrap_or(u64::MAX);
+    }
+    random.operand(size)
+}
+
+#[test]
+fn gather_at_every_offset_of_small_buffers() {
+    const SEED: u64 = 0x5eed_0011;
+    let mut random = Random::new(SEED);
+    let mut tally = Tally::default();
+    for len in 0..=LONGEST_SMALL_BUFFER {
+        for place in places(len) {
+            let buffer = GuardedBuffer::random(len as usize, &mut random);
+            for result_len in 0..=2 {
+                tally.count(check_gather(&place, &buffer, result_len));
+            }
+        }
+    }
+    tally.assert_answers(&[0, 10, 11, 22, 24]);
+    println!("gather, every offset of small buffers: seed {SEED:#x}, {tally}");
+}
+
+#[test]
+fn scatter_at_every_offset_of_small_buffers() {
+    const SEED: u64 = 0x5eed_0012;
+    let mut random = Random::new(SEED);
+    let mut tally = Tally::default();
+    for len in 0..=LONGEST_SMALL_BUFFER {
+        let mut buffer = GuardedBuffer::random(len as usize, &mut random);
+        for place in places(len) {
+            for value in values_to_write(place.size, &mut random) {
+                tally.count(check_scatter(&place, &mut buffer, value));
+            }
+        }
+    }
+    tally.assert_answers(&[0, 10, 22, 24]);
+    println!("scatter, every offset of small buffers: seed {SEED:#x}, {tally}");
+}
+
+#[test]
+fn scatter_refuses_every_value_one_too_large() {
+    const SEED: u64 = 0x5eed_0013;
+    let mut random = Random::new(SEED);
+    let mut tally = Tally::default();
+    let mut buffer = GuardedBuffer::random(LONGEST_SMALL_BUFFER as usize, &mut random);
+    for order in GOOD_ORDERS {
+        for size in SIZES {
+            let Some(value) = first_value_too_large(size) else {
+                continue;
+            };
+            for offset in 0..=LONGEST_SMALL_BUFFER - size {
+                let place = Place { order, offset, size };
+                tally.count(check_scatter(&place, &mut buffer, value));
+            }
+        }
+    }
+    tally.assert_answers(&[24]);
+    println!("scatter, values one too large: seed {SEED:#x}, {tally}");
+}
+
+#[test]
+fn gather_random_calls() {
+    const SEED: u64 = 0x5eed_0014;
+    let mut random = Random::new(SEED);
+    let mut tally = Tally::default();
+    for _ in 0..RANDOM_CALLS {
+        let len = random.below(41);
+        let place = random_place(len, &mut random);
+        let buffer = GuardedBuffer::random(len as usize, &mut random);
+        let result_len = random.below(MOST_RESULT_WORDS + 1);
+        tally.count(check_gather(&place, &buffer, result_len));
+    }
+    tally.assert_answers(&[0, 10, 11, 22, 24]);
+    println!("gather, random calls: seed {SEED:#x}, {tally}");
+}
+
+#[test]
+fn scatter_random_calls() {
+    const SEED: u64 = 0x5eed_0015;
+    let mut random = Random::new(SEED);
+    let mut tally = Tally::default();
+    for _ in 0..RANDOM_CALLS {
+        let len = random.below(41);
+        let place = random_place(len, &mut random);
+        let value = random_value(place.size, &mut random);
+        let mut buffer = GuardedBuffer::random(len as usize, &mut random);
+        tally.count(check_scatter(&place, &mut buffer, value));
+    }
+    tally.assert_answers(&[0, 10, 22, 24]);
+    println!("scatter, random calls: seed {SEED:#x}, {tally}");
+}
+
+#[test]
+fn what_was_written_is_read_back() {
+    const SEED: u64 = 0x5eed_0016;
+    let mut random = Random::new(SEED);
+    for _ in 0..RANDOM_CALLS {
+        let size = 1 + random.below(*SIZES.end());
+        let offset = random.below(LONGEST_SMALL_BUFFER - size + 1);
+        let place = Place { order: random.pick(&GOOD_ORDERS), offset, size };
+        let value = random.operand(size);
+        let mut bytes = [0; LONGEST_SMALL_BUFFER as usize];
+        let mut result = [!value];
+        assert_eq!(scatter(&place, &mut bytes, value), 0, "{place:#x?}, value {value:#x}");
+        assert_eq!(gather(&place, &bytes, &mut result), 0, "{place:#x?}, bytes {bytes:x?}");
+        assert_eq!(result, [value], "{place:#x?}, bytes {bytes:x?}");
+    }
+    println!("scatter then gather: seed {SEED:#x}, {RANDOM_CALLS} agreed");
+}
+
+#[test]
+fn large_buffers_near_65536() {
+    const SEED: u64 = 0x5eed_0017;
+    let mut random = Random::new(SEED);
+    let mut gathered = Tally::default();
+    let mut scattered = Tally::default();
+    for len in [65_536, 65_540] {
+        let mut buffer = GuardedBuffer::random(len, &mut random);
+        for order in GOOD_ORDERS {
+            for size in SIZES {
+                for offset in 65_520..65_545 {
+                    let place = Place { order, offset, size };
+                    gathered.count(check_gather(&place, &buffer, 1));
+                    let value = random.operand(size);
+                    scattered.count(check_scatter(&place, &mut buffer, value));
+                }
+            }
+        }
+    }
+    gathered.assert_answers(&[0, 24]);
+    scattered.assert_answers(&[0, 24]);
+    println!("gather, buffers near 65536 bytes: seed {SEED:#x}, {gathered}");
+    println!("scatter, buffers near 65536 bytes: seed {SEED:#x}, {scattered}");
+}

@@ -1,0 +1,9 @@
+//! Checks what the documents say against the files of the repository, so that neither a row of the
+//! trace nor a link goes stale. Each check returns all its problems at once, one a line.
+
+pub mod declared;
+pub mod links;
+pub mod machine;
+pub mod markdown;
+pub mod repository;
+pub mod trace;

@@ -1,0 +1,286 @@
+//! The trace: a table that leads from each sentence of the papers to the definition, the promise and
+//! the test that stand for it. Each of its references must lead to a declaration that is there.
+
+use crate::declared::declares;
+use crate::markdown::{cells, lines_outside_fences, take_apart};
+use crate::repository::Repository;
+use std::collections::BTreeSet;
+
+const DOCUMENT: &str = "docs/TRACE.md";
+const HEADER: [&str; 4] = ["Paper", "Definition", "Promise or theorem", "Noticed by"];
+
+pub fn problems(repository: &Repository) -> Vec<String> {
+    let Some(text) = repository.text(DOCUMENT) else {
+        return vec![format!("{DOCUMENT}: there is no such file")];
+    };
+    let mut problems = Vec::new();
+    let mut named = BTreeSet::new();
+    let rows = rows(text, &mut problems);
+    if rows.is_empty() {
+        problems
+            .push(format!("{DOCUMENT}: it has no row under the header | {} |", HEADER.join(" | ")));
+    }
+    for (number, row) in &rows {
+        for problem in problems_of_row(repository, row, &mut named) {
+            problems.push(format!("{DOCUMENT}:{number}: {problem}"));
+        }
+    }
+    let edits = repository.files().map(|(path, _)| path).filter(|path| is_edit(path));
+    for edit in edits.filter(|path| !named.contains(*path)) {
+        problems
+            .push(format!("{DOCUMENT}: no row names {edit}, which guards a rule of the papers"));
+    }
+    problems
+}
+
+/// A row of a table: its line number and its cells.
+type Row = (usize, Vec<String>);
+
+/// The rows below each header of the trace.
+fn rows(text: &str, problems: &mut Vec<String>) -> Vec<Row> {
+    let mut rows = Vec::new();
+    let mut table = Vec::new();
+    for (number, line) in lines_outside_fences(text) {
+        if line.trim_start().starts_with('|') {
+            table.push((number, cells(line).unwrap_or_default()));
+        } else {
+            rows.extend(rows_of_table(std::mem::take(&mut table), problems));
+        }
+    }
+    rows.extend(rows_of_table(table, problems));
+    rows
+}
+
+/// The rows of one table, without its header and the line of dashes; none of a table that is no trace.
+fn rows_of_table(table: Vec<Row>, problems: &mut Vec<String>) -> Vec<Row> {
+    let Some((number, header)) = table.first() else {
+        return Vec::new();
+    };
+    // rows after an empty line have no header, and a slip in a header would leave its table unchecked
+    if !table.get(1).is_some_and(|(_, cells)| are_dashes(cells)) {
+        problems.push(format!(
+            "{DOCUMENT}:{number}: a header and a line of dashes must start the table"
+        ));
+    } else if *header == HEADER {
+        return table.into_iter().skip(2).collect();
+    } else if header.first().is_some_and(|cell| cell == HEADER[0]) {
+        problems
+            .push(format!("{DOCUMENT}:{number}: the header must be | {} |", HEADER.join(" | ")));
+    }
+    Vec::new()
+}
+
+fn are_dashes(cells: &[String]) -> bool {
+    !cells.is_empty()
+        && cells.iter().all(|cell| cell.contains('-') && cell.trim_matches([':', '-']).is_empty())
+}
+
+fn problems_of_row(
+    repository: &Repository,
+    row: &[String],
+    named: &mut BTreeSet<String>,
+) -> Vec<String> {
+    let [paper, rest @ ..] = row else {
+        return vec!["the row has no closing |".to_string()];
+    };
+    if rest.len() != 3 {
+        return vec![format!("the row has {} cells, not 4", row.len())];
+    }
+    let mut problems = Vec::new();
+    if paper.is_empty() {
+        problems.push(format!("{}: the cell is empty", HEADER[0]));
+    }
+    for (cell, title) in rest.iter().zip(&HEADER[1..]) {
+        let found = problems_of_cell(repository, cell, named);
+        problems.extend(found.into_iter().map(|problem| format!("{title}: {problem}")));
+    }
+    problems
+}
+
+/// A file, and the names that it is to declare.
+#[derive(Debug, PartialEq)]
+struct Reference<'a> {
+    path: &'a str,
+    names: Vec<&'a str>,
+}
+
+fn problems_of_cell(
+    repository: &Repository,
+    cell: &str,
+    named: &mut BTreeSet<String>,
+) -> Vec<String> {
+    if let Some(reason) = cell.strip_prefix("none:") {
+        let empty = reason.trim().is_empty();
+        return if empty { vec!["'none:' gives no reason".to_string()] } else { Vec::new() };
+    }
+    match references(cell) {
+        Err(problem) => vec![problem],
+        Ok(references) => {
+            named.extend(references.iter().map(|reference| reference.path.to_string()));
+            references
+                .iter()
+                .flat_map(|reference| problems_of_reference(repository, reference))
+                .collect()
+        }
+    }
+}
+
+/// What stands in backticks: a path has a '/', and the names after it belong to it.
+fn references(cell: &str) -> Result<Vec<Reference<'_>>, String> {
+    let parts = take_apart(cell);
+    if parts.unclosed {
+        return Err("a backtick is not closed".to_string());
+    }
+    let mut references: Vec<Reference> = Vec::new();
+    for code in parts.code {
+        if code.contains('/') {
+            references.push(Reference { path: code, names: Vec::new() });
+        } else if let Some(last) = references.last_mut() {
+            last.names.push(code);
+        } else {
+            return Err(format!("no path stands before `{code}`"));
+        }
+    }
+    if references.is_empty() {
+        return Err("it has neither a reference nor 'none: REASON'".to_string());
+    }
+    Ok(references)
+}
+
+fn problems_of_reference(repository: &Repository, reference: &Reference) -> Vec<String> {
+    let path = reference.path;
+    let Some(text) = repository.text(path) else {
+        return vec![format!("there is no file {path}")];
+    };
+    if reference.names.is_empty() && !is_edit(path) {
+        return vec![format!("no name follows {path}")];
+    }
+    let missing = reference.names.iter().filter(|name| !declares(path, text, name));
+    missing.map(|name| format!("{path} does not declare {name}")).collect()
+}
+
+fn is_edit(path: &str) -> bool {
+    path.starts_with("crates/") && path.contains("/must-fail/") && path.ends_with(".edit")
+}
+
+#[cfg(test)]
+mod tests {
+    use super::*;
+
+    const WORD: &str = "crates/word/specs/Word.antt";
+    const EDIT: &str = "crates/word/must-fail/low.edit";
+    const TOP: &str =
+        "Prose.\n\n| Paper | Definition | Promise or theorem | Noticed by |\n|---|---|---|---|\n";
+
+    /// The problems of a trace with these rows, the first of which stands in line 5.
+    fn problems_of(rows: &str) -> Vec<String> {
+        let trace = format!("{TOP}{rows}");
+        let word = "pub valueOf : ℕ → ℕ\npub bytesOf : ℕ → ℕ\n";
+        let test = "#[test]\nfn adds() {}\n";
+        problems(&Repository::of(&[
+            (DOCUMENT, &trace),
+            (WORD, word),
+            (EDIT, ""),
+            ("tests/a/b.rs", test),
+        ]))
+    }
+
+    fn row(definition: &str) -> String {
+        format!("| A word has 8 bits. | {definition} | none: it is a definition | `{EDIT}`; also `tests/a/b.rs` `adds` |\n")
+    }
+
+    fn only_problem(definition: &str) -> String {
+        let problems = problems_of(&row(definition));
+        assert_eq!(problems.len(), 1, "{problems:?}");
+        problems[0].clone()
+    }
+
+    #[test]
+    fn a_good_row_passes() {
+        assert_eq!(problems_of(&row(&format!("`{WORD}` `valueOf` and `bytesOf`"))), [""; 0]);
+        assert_eq!(
+            problems_of(&row(&format!("`{WORD}` `valueOf`; `tests/a/b.rs` `adds`"))),
+            [""; 0]
+        );
+    }
+
+    #[test]
+    fn a_name_that_is_not_declared_is_reported() {
+        let problem = only_problem(&format!("`{WORD}` `valueOf` `gone`"));
+        assert_eq!(problem, format!("{DOCUMENT}:5: Definition: {WORD} does not declare gone"));
+    }
+
+    #[test]
+    fn a_file_that_is_not_there_is_reported() {
+        assert!(only_problem("`crates/word/specs/word.antt` `valueOf`")
+            .ends_with("there is no file crates/word/specs/word.antt"));
+    }
+
+    #[test]
+    fn a_path_without_a_name_is_reported() {
+        assert!(only_problem(&format!("`{WORD}`")).ends_with(&format!("no name follows {WORD}")));
+    }
+
+    #[test]
+    fn a_cell_without_a_reference_is_reported() {
+        assert!(only_problem("in the word").ends_with("neither a reference nor 'none: REASON'"));
+        assert!(only_problem("").ends_with("neither a reference nor 'none: REASON'"));
+        assert!(only_problem("none").ends_with("neither a reference nor 'none: REASON'"));
+        assert!(only_problem("none: ").ends_with("'none:' gives no reason"));
+        assert!(only_problem("`valueOf`").ends_with("no path stands before `valueOf`"));
+        assert!(only_problem(&format!("`{WORD}` `valueOf")).ends_with("a backtick is not closed"));
+    }
+
+    #[test]
+    fn a_row_of_another_shape_is_reported() {
+        let good = row(&format!("`{WORD}` `valueOf`"));
+        assert_eq!(
+            problems_of(&format!("{good}| a | b |\n")),
+            [format!("{DOCUMENT}:6: the row has 2 cells, not 4")]
+        );
+        assert_eq!(
+            problems_of(&format!("{good}| a | b\n")),
+            [format!("{DOCUMENT}:6: the row has no closing |")]
+        );
+        let no_paper = format!("{good}| | none: a | none: b | none: c |\n");
+        assert_eq!(problems_of(&no_paper), [format!("{DOCUMENT}:6: Paper: the cell is empty")]);
+    }
+
+    #[test]
+    fn all_problems_are_reported_at_once() {
+        let bad = "| a | none: | `b/c` `d` | e |\n";
+        assert_eq!(problems_of(&format!("{}{bad}", row("none: a"))).len(), 3);
+    }
+
+    #[test]
+    fn an_edit_that_no_row_names_is_reported() {
+        let problems = problems_of("| a | none: b | none: c | none: d |\n");
+        assert_eq!(problems.len(), 1);
+        assert!(problems[0].contains(&format!("no row names {EDIT}")));
+    }
+
+    #[test]
+    fn a_trace_without_rows_is_reported() {
+        assert!(problems_of("")[0].contains("it has no row"));
+        assert!(problems(&Repository::of(&[]))[0].ends_with("there is no such file"));
+    }
+
+    #[test]
+    fn other_tables_are_left_alone_but_a_slip_in_the_header_is_not() {
+        let good = row("none: a");
+        assert_eq!(problems_of(&format!("{good}\n| a | b |\n|---|---|\n| c | d |\n")), [""; 0]);
+        let slip = problems_of(&format!("{good}\n| Paper | Definitions |\n|---|---|\n| c | d |\n"));
+        assert_eq!(slip.len(), 1);
+        assert!(slip[0].contains(":7: the header must be"));
+    }
+
+    #[test]
+    fn rows_without_a_header_are_reported() {
+        let problems =
+            problems_of(&format!("{}\n| a | none: b | none: c | `gone/x` |\n", row("none: a")));
+        assert_eq!(
+            problems,
+            [format!("{DOCUMENT}:7: a header and a line of dashes must start the table")]
+        );
+    }
+}

@@ -1,0 +1,29 @@
+//! The checks, on the repository that this package stands in.
+
+use documents::repository::Repository;
+use documents::{links, machine, trace};
+use std::env;
+use std::path::Path;
+
+fn must_have_no_problem(check: fn(&Repository) -> Vec<String>) {
+    // asked for when the test runs, so that a copy never checks the folder where it was compiled
+    let package = env::var("CARGO_MANIFEST_DIR").expect("cargo names the package's folder");
+    let top = Path::new(&package).join("../..");
+    let problems = check(&Repository::read(&top).expect("the repository can be read"));
+    assert!(problems.is_empty(), "{} to mend:\n{}", problems.len(), problems.join("\n"));
+}
+
+#[test]
+fn the_trace_leads_to_what_is_declared() {
+    must_have_no_problem(trace::problems);
+}
+
+#[test]
+fn links_and_paths_lead_somewhere() {
+    must_have_no_problem(links::problems);
+}
+
+#[test]
+fn no_file_names_a_folder_of_a_machine() {
+    must_have_no_problem(machine::problems);
+}

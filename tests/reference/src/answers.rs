@@ -1,0 +1,179 @@
+//! The answers of the C interface: the work of a call, or the number of its lowest fault.
+
+use std::ops::Range;
+
+use crate::arithmetic::{modulus, value};
+use crate::bytes::{read, write, ByteOrder};
+use crate::fault;
+use crate::opcodes::{is_operand_size, Operation, Sizes};
+
+/// An integer operation with the values of its inputs. An absent input1 has size 0 and value 0.
+#[derive(Clone, Copy, Debug)]
+pub struct ValueCall {
+    pub opcode: u64,
+    pub sizes: Sizes,
+    pub input0: u64,
+    pub input1: u64,
+}
+
+/// Where a value stands in a buffer, and in which byte order.
+#[derive(Clone, Copy, Debug)]
+pub struct Place {
+    pub order: u64,
+    pub offset: u64,
+    pub size: u64,
+}
+
+/// The value of an operation, for a caller who lends `result_len` result words.
+pub fn value_answer(call: &ValueCall, result_len: usize) -> Result<u64, u64> {
+    if result_len == 0 {
+        return Err(fault::LENGTH);
+    }
+    let Some(operation) = Operation::with_number(call.opcode) else {
+        return Err(fault::HEAD);
+    };
+    if !operation.shape_allows(call.sizes) {
+        return Err(fault::SHAPE);
+    }
+    if !fits(call.input0, call.sizes.input0) || !fits(call.input1, call.sizes.input1) {
+        return Err(fault::RANGE);
+    }
+    if !operation.size_rule.allows(call.sizes) {
+        return Err(fault::SIZE);
+    }
+    if operation.divides() && call.input1 == 0 {
+        return Err(fault::ZERO);
+    }
+    Ok(value(operation.opcode, call.sizes, call.input0, call.input1))
+}
+
+/// The value that stands in a buffer, for a caller who lends `result_len` result words.
+pub fn gather_answer(place: &Place, bytes: &[u8], result_len: usize) -> Result<u64, u64> {
+    let Some(order) = ByteOrder::with_number(place.order) else {
+        return Err(fault::SETTING);
+    };
+    if result_len == 0 {
+        return Err(fault::LENGTH);
+    }
+    if !is_operand_size(place.size) {
+        return Err(fault::SHAPE);
+    }
+    let Some(range) = range_within(place, bytes.len()) else {
+        return Err(fault::RANGE);
+    };
+    Ok(read(order, &bytes[range]))
+}
+
+/// Writes a value into a buffer.
+pub fn scatter_answer(place: &Place, bytes: &mut [u8], value: u64) -> Result<(), u64> {
+    let Some(order) = ByteOrder::with_number(place.order) else {
+        return Err(fault::SETTING);
+    };
+    if !is_operand_size(place.size) {
+        return Err(fault::SHAPE);
+    }
+    let Some(range) = range_within(place, bytes.len()) else {
+        return Err(fault::RANGE);
+    };
+    if !fits(value, place.size) {
+        return Err(fault::RANGE);
+    }
+    write(order, value, &mut bytes[range]);
+    Ok(())
+}
+
+/// Whether a value is below 256^size, for a size of at most 8.
+fn fits(value: u64, size: u64) -> bool {
+    u128::from(value) < modulus(size)
+}
+
+/// The indices of the value's bytes, if all of them are in the buffer. The sum does not wrap.
+fn range_within(place: &Place, len: usize) -> Option<Range<usize>> {
+    let end = u128::from(place.offset) + u128::from(place.size);
+    if end > len as u128 {
+        return None;
+    }
+    Some(place.offset as usize..end as usize)
+}
+
+#[cfg(test)]
+mod tests {
+    use super::*;
+
+    /// INT_DIV at size 2, 100 by 7.
+    const DIVISION: ValueCall = ValueCall {
+        opcode: 35,
+        sizes: Sizes { output: 2, input0: 2, input1: 2 },
+        input0: 100,
+        input1: 7,
+    };
+
+    #[test]
+    fn lowest_fault_of_value_comes_first() {
+        let mut call = DIVISION;
+        assert_eq!(value_answer(&call, 1), Ok(14));
+        call.input1 = 0;
+        assert_eq!(value_answer(&call, 1), Err(33));
+        call.sizes.output = 3;
+        assert_eq!(value_answer(&call, 1), Err(25));
+        call.input0 = 0x10000;
+        assert_eq!(value_answer(&call, 1), Err(24));
+        call.sizes.output = 9;
+        assert_eq!(value_answer(&call, 1), Err(22));
+        call.opcode = 43;
+        assert_eq!(value_answer(&call, 1), Err(21));
+        assert_eq!(value_answer(&call, 0), Err(11));
+    }
+
+    #[test]
+    fn input1_is_present_or_absent_as_in_the_manual() {
+        let mut call = DIVISION;
+        call.sizes.input1 = 0;
+        assert_eq!(value_answer(&call, 1), Err(22));
+        call.opcode = 27;
+        assert_eq!(value_answer(&call, 1), Err(24));
+        call.input1 = 0;
+        assert_eq!(value_answer(&call, 1), Ok(0xff9b));
+        call.sizes.input1 = 2;
+        assert_eq!(value_answer(&call, 1), Err(22));
+    }
+
+    #[test]
+    fn lowest_fault_of_gather_comes_first() {
+        let bytes = [0x12, 0x34, 0x56];
+        let mut place = Place { order: 1, offset: 1, size: 2 };
+        assert_eq!(gather_answer(&place, &bytes, 1), Ok(0x3456));
+        place.offset = 2;
+        assert_eq!(gather_answer(&place, &bytes, 1), Err(24));
+        place.offset = u64::MAX;
+        assert_eq!(gather_answer(&place, &bytes, 1), Err(24));
+        place.size = 0;
+        assert_eq!(gather_answer(&place, &bytes, 1), Err(22));
+        assert_eq!(gather_answer(&place, &bytes, 0), Err(11));
+        place.order = 2;
+        assert_eq!(gather_answer(&place, &bytes, 0), Err(10));
+    }
+
+    #[test]
+    fn refused_scatter_writes_nothing() {
+        let refusals = [
+            (Place { order: 2, offset: 9, size: 9 }, 0, 10),
+            (Place { order: 1, offset: 9, size: 9 }, 0, 22),
+            (Place { order: 1, offset: 2, size: 2 }, 0, 24),
+            (Place { order: 1, offset: 1, size: 2 }, 0x10000, 24),
+        ];
+        for (place, value, number) in refusals {
+            let mut bytes = [0xa0, 0xa1, 0xa2];
+            assert_eq!(scatter_answer(&place, &mut bytes, value), Err(number));
+            assert_eq!(bytes, [0xa0, 0xa1, 0xa2]);
+        }
+    }
+
+    #[test]
+    fn scatter_writes_its_bytes_only() {
+        let mut bytes = [0xa0, 0xa1, 0xa2, 0xa3];
+        let place = Place { order: 0, offset: 1, size: 2 };
+        assert_eq!(scatter_answer(&place, &mut bytes, 0x1234), Ok(()));
+        assert_eq!(bytes, [0xa0, 0x34, 0x12, 0xa3]);
+    }
+}

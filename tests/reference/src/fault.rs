@@ -1,0 +1,16 @@
+//! The numbers that paper 01 gives to faults.
+
+/// A byte order that is neither 0 nor 1.
+pub const SETTING: u64 = 10;
+/// A lent buffer that is too short to hold the result.
+pub const LENGTH: u64 = 11;
+/// An opcode out of range.
+pub const HEAD: u64 = 21;
+/// A size that is not 1 to 8, or an operand present or absent against the manual.
+pub const SHAPE: u64 = 22;
+/// Bytes beyond the end of a buffer, or a value that is not below 256^size.
+pub const RANGE: u64 = 24;
+/// Sizes that the operation does not allow together.
+pub const SIZE: u64 = 25;
+/// A divisor of 0.
+pub const ZERO: u64 = 33;
