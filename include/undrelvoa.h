@@ -2,9 +2,9 @@
  *
  * Link target/staticlib/libexports.a, which `rt staticlib exports` makes.
  *
- * Every function takes every input. It answers 0 when it has done its work, or else the number that
- * paper 01 gives to the fault it found; where several faults are present, the lowest number. A call
- * that answers another number than 0 has changed no buffer. Numbers used here:
+ * Every function takes every number; of buffers it asks what stands at the end of this comment. It
+ * answers 0 when it has done its work, or else the number of the fault it found; where several faults
+ * are present, the lowest number. A call that answers another number than 0 has changed no buffer.
  *
  *   10 SETTING  a byte order that is neither 0 nor 1
  *   11 LENGTH   a lent buffer that is too short to hold the result
@@ -27,9 +27,46 @@
 extern "C" {
 #endif
 
+/* The opcodes of the integer operations. */
+enum undrelvoa_opcode {
+    UNDRELVOA_PIECE = 10,
+    UNDRELVOA_SUBPIECE = 11,
+    UNDRELVOA_POPCOUNT = 12,
+    UNDRELVOA_INT_EQUAL = 13,
+    UNDRELVOA_INT_NOTEQUAL = 14,
+    UNDRELVOA_INT_LESS = 15,
+    UNDRELVOA_INT_SLESS = 16,
+    UNDRELVOA_INT_LESSEQUAL = 17,
+    UNDRELVOA_INT_SLESSEQUAL = 18,
+    UNDRELVOA_INT_ZEXT = 19,
+    UNDRELVOA_INT_SEXT = 20,
+    UNDRELVOA_INT_ADD = 21,
+    UNDRELVOA_INT_SUB = 22,
+    UNDRELVOA_INT_CARRY = 23,
+    UNDRELVOA_INT_SCARRY = 24,
+    UNDRELVOA_INT_SBORROW = 25,
+    UNDRELVOA_INT_2COMP = 26,
+    UNDRELVOA_INT_NEGATE = 27,
+    UNDRELVOA_INT_XOR = 28,
+    UNDRELVOA_INT_AND = 29,
+    UNDRELVOA_INT_OR = 30,
+    UNDRELVOA_INT_LEFT = 31,
+    UNDRELVOA_INT_RIGHT = 32,
+    UNDRELVOA_INT_SRIGHT = 33,
+    UNDRELVOA_INT_MULT = 34,
+    UNDRELVOA_INT_DIV = 35,
+    UNDRELVOA_INT_REM = 36,
+    UNDRELVOA_INT_SDIV = 37,
+    UNDRELVOA_INT_SREM = 38,
+    UNDRELVOA_BOOL_NEGATE = 39,
+    UNDRELVOA_BOOL_XOR = 40,
+    UNDRELVOA_BOOL_AND = 41,
+    UNDRELVOA_BOOL_OR = 42
+};
+
 /* The value of an integer operation.
  *
- *   opcode       10 (PIECE) to 42 (BOOL_OR), as paper 01 numbers them
+ *   opcode       an undrelvoa_opcode, 10 to 42
  *   output_size  bytes of the output, 1 to 8
  *   size0        bytes of input0, 1 to 8
  *   size1        bytes of input1, 1 to 8, or 0 for an operation that has no input1

@@ -2,24 +2,24 @@
 use Prim.Native.Nat.{ℕ, _+_, _*_, _/_, _%_, _^_, _-_, _≤_, _<_, min, max}
 use mathlib.Core.Bool.{Bool, true, false, cond}
 use mathlib.Core.List.{List, [], _∷_}
-use mathlib.Core.Path.{_≡_, refl, subst}
+use mathlib.Core.Path.{_≡_, refl}
 use native.Mathlib.Omega.{arith}
 use native.Mathlib.Nat.{mod-lt, mod-le, div-le-self, lt-of-le-of-lt, lt-of-lt-of-le}
 use borrow.Author.Tests.{eqb-true, ltb-true}
 use lib.Dec.{eqb, ltb, lit<}
 use lib.Count.{ones-le}
 use lib.Arith as A
-use lib.Pow.{pow-add}
 use lib.Signed.{shrZ}
 use Rattle.word.specs.Sum.{sum, digit}
 use Rattle.word.proofs.Digits.{digit-lt, digits-lt}
-use Rattle.word.proofs.Laws.{pow-bits}
+use Rattle.word.proofs.Powers.{pow-bits}
 use Rattle.word.proofs.Powers.{size-pos, size-mono}
 use Rattle.integer.specs.Integers.{signed, wrap, negative}
 use Rattle.integer.specs.Operations.{flag, piece, subpiece, popcount, intEqual, intNotEqual, intLess, intSless, intLessEqual, intSlessEqual, intZext, intSext, intAdd, intSub, intCarry, intScarry, intSborrow, int2comp, intNegate, intXor, intAnd, intOr, intLeft, intRight, intSright, intMult, intDiv, intRem, intSdiv, intSrem, boolNegate, boolXor, boolAnd, boolOr}
-use Rattle.arithmetic.specs.Operands.{Operands, among, sizeSentence, sizesMeet, sizesAgree}
+use Rattle.arithmetic.specs.Operands.{Operands, among, sizesAgree}
 use Rattle.arithmetic.specs.Result.{lookup, result}
 use Rattle.integer.proofs.Booleans.{flag-lt}
+use Rattle.integer.proofs.Whole.{piece-lt}
 use Rattle.integer.proofs.Bits.{popcount-is}
 use Rattle.integer.proofs.TwosComplement.{wrap-lt}
 use Rattle.arithmetic.proofs.Agreement.{agreed, kept, all-equal}
@@ -59,9 +59,7 @@ module _ {opcode size size0 size1 a b : ℕ} (o : Operands opcode size size0 siz
 
   piece-below : eqb (size0 + size1) size ≡ true → piece size1 a b < 256 ^ size
   unfolding piece
-  piece-below t =
-      subst (λ (n : ℕ). a * 256 ^ size1 + b < 256 ^ n) (eqb-true (size0 + size1) size t)
-      (rw (pow-add 256 size0 size1) (A.digits-lt (o .below0) (o .below1)))
+  piece-below t = piece-lt size size0 size1 a b (eqb-true (size0 + size1) size t) (o .below0) (o .below1)
 
   popcount-below : popcount size0 a < 256 ^ size
   popcount-below =
@@ -83,7 +81,7 @@ module _ {opcode size size0 size1 a b : ℕ} (o : Operands opcode size size0 siz
       (either-lt (negative (signed size a)) (256 ^ size - 1) 0 (256 ^ size) (omega (arith, positive)) positive)
 
   pub result-below : result opcode size size0 size1 a b < 256 ^ size
-  unfolding result sizesAgree sizeSentence sizesMeet among subpiece intEqual intNotEqual intLess intSless intLessEqual intSlessEqual intZext intSext intAdd intSub intCarry intScarry intSborrow int2comp intNegate intXor intAnd intOr intLeft intRight intMult intDiv intRem intSdiv intSrem boolNegate boolXor boolAnd boolOr
+  unfolding result sizesAgree among subpiece intEqual intNotEqual intLess intSless intLessEqual intSlessEqual intZext intSext intAdd intSub intCarry intScarry intSborrow int2comp intNegate intXor intAnd intOr intLeft intRight intMult intDiv intRem intSdiv intSrem boolNegate boolXor boolAnd boolOr
   result-below =
       lookup-lt opcode (256 ^ size) positive
       ((λ e. piece-below (agreed o 10 e))

@@ -17,49 +17,26 @@ unary opcode = among opcode (12 ∷ 19 ∷ 20 ∷ 26 ∷ 27 ∷ 39 ∷ [])
 unfoldable pub divides : (opcode : ℕ) → Bool
 divides opcode = leb 35 opcode && leb opcode 38
 
--- The sentence of paper 01's rule 25 SIZE that an opcode falls under, 1 to 8; 0 for a number that is not an opcode of 10 to 42.
-unfoldable pub sizeSentence : (opcode : ℕ) → ℕ
-sizeSentence opcode =
-    -- INT_2COMP, INT_NEGATE and shifts
-    cond (among opcode (26 ∷ 27 ∷ 31 ∷ 32 ∷ 33 ∷ [])) 1
-    -- addition, subtraction, multiplication, divisions, remainders, INT_XOR, INT_AND, INT_OR
-    (cond (among opcode (21 ∷ 22 ∷ 34 ∷ 35 ∷ 37 ∷ 36 ∷ 38 ∷ 28 ∷ 29 ∷ 30 ∷ [])) 2
-    -- comparisons and the three carries
-    (cond (among opcode (13 ∷ 14 ∷ 15 ∷ 16 ∷ 17 ∷ 18 ∷ 23 ∷ 24 ∷ 25 ∷ [])) 3
-    -- extensions
-    (cond (among opcode (19 ∷ 20 ∷ [])) 4
-    -- BOOL, with one input and with two
-    (cond (among opcode (39 ∷ [])) 5
-    (cond (among opcode (40 ∷ 41 ∷ 42 ∷ [])) 6
-    -- PIECE
-    (cond (among opcode (10 ∷ [])) 7
-    -- SUBPIECE and POPCOUNT
-    (cond (among opcode (11 ∷ 12 ∷ [])) 8 0)))))))
-
--- What each sentence says of the sizes; size is the output's, size0 and size1 are the inputs'. Shift amounts are free.
-unfoldable pub sizesMeet : (sentence size size0 size1 : ℕ) → Bool
-sizesMeet sentence size size0 size1 =
-    -- input0 = output
-    cond (eqb sentence 1) (eqb size0 size)
-    -- all three equal
-    (cond (eqb sentence 2) (eqb size0 size && eqb size1 size)
-    -- inputs equal, output 1
-    (cond (eqb sentence 3) (eqb size1 size0 && eqb size 1)
-    -- output larger than input0
-    (cond (eqb sentence 4) (ltb size0 size)
-    -- all 1
-    (cond (eqb sentence 5) (eqb size0 1 && eqb size 1)
-    (cond (eqb sentence 6) (eqb size0 1 && eqb size1 1 && eqb size 1)
-    -- inputs add up to output
-    (cond (eqb sentence 7) (eqb (size0 + size1) size)
-    -- free
-    (eqb sentence 8)))))))
-
+-- Paper 01's rule 25 SIZE, sentence by sentence, for the opcodes 10 to 42; size is the output's, size0 and size1 are the inputs'.
 unfoldable pub sizesAgree : (opcode size size0 size1 : ℕ) → Bool
-sizesAgree opcode size size0 size1 = sizesMeet (sizeSentence opcode) size size0 size1
+sizesAgree opcode size size0 size1 =
+    -- INT_2COMP, INT_NEGATE and shifts: input0 = output.
+    cond (among opcode (26 ∷ 27 ∷ 31 ∷ 32 ∷ 33 ∷ [])) (eqb size0 size)
+    -- Addition, subtraction, multiplication, divisions, remainders, INT_XOR, INT_AND, INT_OR: all three equal.
+    (cond (among opcode (21 ∷ 22 ∷ 34 ∷ 35 ∷ 37 ∷ 36 ∷ 38 ∷ 28 ∷ 29 ∷ 30 ∷ [])) (eqb size0 size && eqb size1 size)
+    -- Comparisons and the three carries: inputs equal, output 1.
+    (cond (among opcode (13 ∷ 14 ∷ 15 ∷ 16 ∷ 17 ∷ 18 ∷ 23 ∷ 24 ∷ 25 ∷ [])) (eqb size1 size0 && eqb size 1)
+    -- Extensions: output larger than input0.
+    (cond (among opcode (19 ∷ 20 ∷ [])) (ltb size0 size)
+    -- BOOL: all 1.
+    (cond (among opcode (39 ∷ 40 ∷ 41 ∷ 42 ∷ [])) (eqb size0 1 && (unary opcode || eqb size1 1) && eqb size 1)
+    -- PIECE: inputs add up to output.
+    (cond (among opcode (10 ∷ [])) (eqb (size0 + size1) size)
+    -- SUBPIECE, POPCOUNT and shift amounts: free.
+    (among opcode (11 ∷ 12 ∷ [])))))))
 
--- The operands that an operation may have: sizes of 1 to 8 bytes that rule 25 allows together, each value below 256^size, and
--- no divisor of 0. An absent input1 has size 0, and so the value 0.
+-- The operands of which an operation's value is asked: sizes of 1 to 8 bytes that rule 25 allows together, each value below 256^size,
+-- and no divisor of 0. Whether input1 is present is rule 22, and not asked here: one that is not looked at may be anything.
 pub record Operands (opcode size size0 size1 a b : ℕ) : Type 0 where
   pub some : 1 ≤ size
   pub most : size ≤ 8

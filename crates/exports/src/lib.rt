@@ -1,4 +1,5 @@
-// The C interface: include/undrelvoa.h says what each parameter is. A call that answers another number than 0 changes no buffer.
+// The C interface: include/undrelvoa.h says what each parameter is (its output_size is size here, and its result is out). A call that
+// answers another number than 0 changes no buffer.
 ghost use mathlib.Core.Path.{_≡_};
 ghost use mathlib.Core.Bool.{cond};
 ghost use lib.Dec.{eqb};

@@ -11,7 +11,7 @@ use lib.Bits.{bitAnd, bitOr, bitXor, differ, and-shr, or-shr, xor-shr, and-step,
 use Rattle.word.specs.Sum.{sum, digit}
 use Rattle.word.proofs.Sums.{sum-cong, sum-add}
 use Rattle.word.proofs.Digits.{digit-lt, digits-sum}
-use Rattle.word.proofs.Laws.{pow-bits}
+use Rattle.word.proofs.Powers.{pow-bits}
 use Rattle.integer.specs.Operations.{popcount, intNegate, intXor, intAnd, intOr}
 
 -- ---- POPCOUNT: the language's count of ones is the count bit by bit

@@ -1,6 +1,6 @@
 -- Laws of Booleans. Assumes nothing.
 use mathlib.Core.Path.{_≡_, refl}
-use mathlib.Core.Bool.{Bool, true, false, not, xor, _&&_}
+use mathlib.Core.Bool.{Bool, true, false, not, xor, _&&_, _||_}
 use Prim.Native.Nat.{_<_}
 use lib.Dec.{lit<}
 use Rattle.integer.specs.Operations.{flag}
@@ -14,6 +14,10 @@ pub xor-true-not : (t : Bool) → xor true (not t) ≡ t
 unfolding xor
 xor-true-not true = refl
 xor-true-not false = refl
+
+pub or-false : (t : Bool) → t || false ≡ t
+or-false true = refl
+or-false false = refl
 
 -- both sides of a conjunction that holds
 pub both : (s t : Bool) → s && t ≡ true → (s ≡ true) × (t ≡ true)

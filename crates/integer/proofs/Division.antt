@@ -3,9 +3,9 @@ use Prim.Native.Nat.{ℕ, zero, suc, _*_, _/_, _%_, _^_, _-_, _≤_, _<_}
 use mathlib.Core.Bool.{Bool, true, false, xor}
 use mathlib.Core.Path.{_≡_, refl, sym, ap, ap₂, _∙_, subst}
 use native.Mathlib.Omega.{arith}
-use native.Mathlib.Nat.{mod-one, mod-eq-of-lt, zero-mod, div-le-self, div-lt-iff-lt-mul, le-trans, lt-of-le-of-lt, le-of-suc-le-suc, mul-le-mul-left, zero-lt-suc}
+use native.Mathlib.Nat.{div-add-mod', mod-one, mod-eq-of-lt, zero-mod, div-le-self, div-lt-iff-lt-mul, le-trans, lt-of-le-of-lt, le-of-suc-le-suc, mul-le-mul-left, zero-lt-suc}
 use lib.Dec.{ltb}
-use lib.IntN.{ℤ, pos, negsuc, negℤ}
+use lib.IntN.{ℤ, pos, negsuc, negℤ, _+ℤ_, _*ℤ_, zero-*ℤ, *ℤ-negsuc, *ℤ-comm, negℤ-+ℤ, negℤ-negℤ}
 use lib.Signed.{mag, quotZ, remZ, mag-rem}
 use borrow.Author.Tests.{ltb-true, ltb-false}
 use mir.Syntax.{w64}
@@ -29,20 +29,32 @@ unfolding remainder withSign negative
 remainder-is (pos a) q = refl
 remainder-is (negsuc a) q = refl
 
+-- ---- quotient times divisor plus remainder is the dividend
+
+neg-mul : (n : ℕ) (k : ℤ) → negℤ (pos n) *ℤ k ≡ negℤ (pos n *ℤ k)
+neg-mul zero k = rw zero-*ℤ
+neg-mul (suc n) k = *ℤ-comm (negsuc n) k ∙ *ℤ-negsuc k n ∙ ap negℤ (*ℤ-comm k (pos (suc n)))
+
+divided-neg : (n d : ℕ) → negℤ (pos (n / d * d)) +ℤ negℤ (pos (n % d)) ≡ negℤ (pos n)
+divided-neg n d = sym (negℤ-+ℤ (pos (n / d * d)) (pos (n % d))) ∙ ap (λ (k : ℕ). negℤ (pos k)) (div-add-mod' n d)
+
+pub divided : (p q : ℤ) → quotient p q *ℤ q +ℤ remainder p q ≡ p
+unfolding quotient remainder withSign negative xor
+divided (pos a) (pos b) = ap pos (div-add-mod' a b)
+divided (pos a) (negsuc b) = rw (neg-mul, negℤ-negℤ) (ap pos (div-add-mod' a (suc b)))
+divided (negsuc a) (pos b) = rw neg-mul (divided-neg (suc a) b)
+divided (negsuc a) (negsuc b) = divided-neg (suc a) (suc b)
+
 -- ---- what an i64 holds
 
 mag-neg : (r a : ℕ) → r ≤ suc a → mag (negℤ (pos r)) ≤ a
 mag-neg zero a h = omega arith
 mag-neg (suc r) a h = le-of-suc-le-suc h
 
-mag-neg′ : (r : ℕ) → mag (negℤ (pos r)) ≤ r
-mag-neg′ zero = omega arith
-mag-neg′ (suc r) = omega arith
-
 -- every quotient but that of the least value by -1
 quotient-fits : (p q : ℤ) → SFits w64 p → (ofZ w64 q ≡ 18446744073709551615 → ofZ w64 p ≡ 9223372036854775808 → ⊥) → SFits w64 (quotZ p q)
 quotient-fits (pos a) (pos b) fp n = record { sfits = lt-of-le-of-lt (div-le-self a b) (fp .sfits) }
-quotient-fits (pos a) (negsuc b) fp n = record { sfits = lt-of-le-of-lt (le-trans (mag-neg′ (a / suc b)) (div-le-self a (suc b))) (fp .sfits) }
+quotient-fits (pos a) (negsuc b) fp n = record { sfits = lt-of-le-of-lt (le-trans (mag-neg (a / suc b) (a / suc b) (omega arith)) (div-le-self a (suc b))) (fp .sfits) }
 quotient-fits (negsuc a) (pos b) fp n = record { sfits = lt-of-le-of-lt (mag-neg (suc a / b) a (div-le-self (suc a) b)) (fp .sfits) }
 quotient-fits (negsuc a) (negsuc zero) fp n = record { sfits = by (ltb (suc a) 9223372036854775808) refl }
   where

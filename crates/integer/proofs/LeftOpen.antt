@@ -3,16 +3,17 @@ use Prim.Native.Nat.{ℕ, zero, suc, _+_, _*_, _/_, _%_, _^_, _-_, _≤_, _<_}
 use mathlib.Core.Bool.{Bool, true, false, cond, xor}
 use mathlib.Core.Path.{_≡_, refl, ap, _∙_}
 use native.Mathlib.Omega.{arith}
-use native.Mathlib.Nat.{mod-eq-of-lt, div-eq-of-lt, zero-mod, div-one, mul-add-div-right}
+use native.Mathlib.Nat.{mod-lt, mod-le, div-lt-iff-lt-mul, lt-of-le-of-lt, lt-of-lt-of-le, mod-eq-of-lt, div-eq-of-lt, zero-mod, div-one, mul-add-div-right}
 use borrow.Author.Tests.{le-ltb, ne-eqb}
-use lib.IntN.{ℤ, negsuc, natAbs}
-use Rattle.word.proofs.Powers.{size-pos}
-use Rattle.integer.specs.Integers.{signed, wrap, negative, withSign, quotient}
+use lib.IntN.{ℤ, negsuc, natAbs, _+ℤ_, _*ℤ_}
+use lib.Pow.{pow-add}
+use Rattle.word.proofs.Powers.{size-pos, size-mono}
+use Rattle.integer.specs.Integers.{signed, wrap, negative, withSign, quotient, remainder}
 use Rattle.integer.specs.Operations.{subpiece, intLeft, intRight, intSright, intSdiv, intSrem, truth, boolNegate, boolXor, boolAnd, boolOr}
 use Rattle.integer.specs.LeftOpen.{LeftOpen}
 use Rattle.integer.proofs.Booleans.{flag-lt}
 use Rattle.integer.proofs.TwosComplement.{signed-high}
-use Rattle.integer.proofs.Division.{no-remainder}
+use Rattle.integer.proofs.Division.{divided, no-remainder}
 use Rattle.integer.proofs.Overflow.{even}
 
 shift-by-width : (size a b : ℕ) → 8 * size ≤ b → (intLeft size a b ≡ 0) × (intRight size a b ≡ 0)
@@ -29,9 +30,21 @@ magnitude false n = refl
 magnitude true zero = refl
 magnitude true (suc n) = refl
 
-truncates : (p q : ℤ) → natAbs (quotient p q) ≡ natAbs p / natAbs q
-unfolding quotient
-truncates p q = magnitude (xor (negative p) (negative q)) (natAbs p / natAbs q)
+sign : (t : Bool) (n : ℕ) → 0 < n → negative (withSign t n) ≡ t
+unfolding withSign negative
+sign false n h = refl
+sign true zero h = absurd (let z : ⊥ = omega arith in z)
+sign true (suc n) h = refl
+
+truncates : (p q : ℤ)
+    → (quotient p q *ℤ q +ℤ remainder p q ≡ p) × (0 < natAbs q → natAbs (remainder p q) < natAbs q)
+    × (0 < natAbs (remainder p q) → negative (remainder p q) ≡ negative p)
+unfolding remainder
+truncates p q = (
+  divided p q,
+  λ h. rw magnitude (mod-lt (natAbs p) h),
+  λ h. sign (negative p) (natAbs p % natAbs q) (rw magnitude at h),
+)
 
 -- ---- the least value by -1
 
@@ -58,9 +71,11 @@ module _ (size : ℕ) (h : 1 ≤ size) where
 
 -- ---- SUBPIECE
 
-missing-bytes : (size a b : ℕ) → a < 256 ^ b → subpiece size a b ≡ 0
+missing-bytes : (size size0 a b : ℕ) → a < 256 ^ size0 → subpiece size a b < 256 ^ (size0 - b)
 unfolding subpiece
-missing-bytes size a b h = ap (λ (n : ℕ). n % 256 ^ size) (div-eq-of-lt h) ∙ zero-mod (256 ^ size)
+missing-bytes size size0 a b h =
+    let whole : 256 ^ size0 ≤ 256 ^ (size0 - b) * 256 ^ b = rw (← (pow-add 256 (size0 - b) b)) (size-mono size0 (size0 - b + b) (omega arith)) in
+    lt-of-le-of-lt (mod-le (a / 256 ^ b) (256 ^ size)) (div-lt-iff-lt-mul (size-pos b) .1 (lt-of-lt-of-le h whole))
 
 drops-low-bytes : (size high low b : ℕ) → high < 256 ^ size → low < 256 ^ b → subpiece size (high * 256 ^ b + low) b ≡ high
 unfolding subpiece

@@ -2,6 +2,8 @@ pub mod Booleans
 pub mod Whole
 pub mod Bits
 pub mod TwosComplement
+pub mod Modular
 pub mod Division
 pub mod Overflow
 pub mod LeftOpen
+pub mod Manual

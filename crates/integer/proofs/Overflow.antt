@@ -12,12 +12,10 @@ use Rattle.word.proofs.Tests.{leb-agree}
 use Rattle.integer.specs.Integers.{signed, wrap, negative, overflows}
 use Rattle.integer.specs.Operations.{intSub, int2comp}
 use Rattle.word.proofs.Powers.{size-pos}
+use Rattle.integer.proofs.Booleans.{or-false}
 use Rattle.integer.proofs.Whole.{sub-pos, sub-neg}
+use Rattle.integer.proofs.Modular.{wrap-signed, wrap-opposite}
 use Rattle.integer.proofs.TwosComplement.{signed-low, signed-high, wrap-lt}
-
-or-false : (p : Bool) → p || false ≡ p
-or-false true = refl
-or-false false = refl
 
 -- ---- differences of whole numbers
 
@@ -27,11 +25,11 @@ four x y u v =
     ∙ ap (λ (k : ℤ). x +ℤ k) (sym (+ℤ-assoc y u v) ∙ ap (λ (k : ℤ). k +ℤ v) (+ℤ-comm y u) ∙ +ℤ-assoc u y v)
     ∙ sym (+ℤ-assoc x u (y +ℤ v))
 
-pub sum-of : (a m b n : ℕ) → (pos a -ℤ pos m) +ℤ (pos b -ℤ pos n) ≡ pos (a + b) -ℤ pos (m + n)
+sum-of : (a m b n : ℕ) → (pos a -ℤ pos m) +ℤ (pos b -ℤ pos n) ≡ pos (a + b) -ℤ pos (m + n)
 sum-of a m b n =
     four (pos a) (negℤ (pos m)) (pos b) (negℤ (pos n)) ∙ ap (λ (k : ℤ). pos (a + b) +ℤ k) (sym (negℤ-+ℤ (pos m) (pos n)))
 
-pub opposite : (b n : ℕ) → negℤ (pos b -ℤ pos n) ≡ pos n -ℤ pos b
+opposite : (b n : ℕ) → negℤ (pos b -ℤ pos n) ≡ pos n -ℤ pos b
 opposite b n =
     negℤ-+ℤ (pos b) (negℤ (pos n)) ∙ ap (λ (k : ℤ). negℤ (pos b) +ℤ k) (negℤ-negℤ (pos n)) ∙ +ℤ-comm (negℤ (pos b)) (pos n)
 
@@ -93,11 +91,11 @@ module _ (s x y : ℕ) (h : 1 ≤ s) where
 -- ---- the code's tests, by the signs of a, b and their sum or difference c
 
 -- the sum's sign differs from both
-abbrev pub carried : Bool → Bool → Bool → Bool
+abbrev carried : Bool → Bool → Bool → Bool
 carried na nb nc = xor nc na && xor nc nb
 
 -- the difference's sign differs from that of a, and is that of b
-abbrev pub borrowed : Bool → Bool → Bool → Bool
+abbrev borrowed : Bool → Bool → Bool → Bool
 borrowed na nb nc = xor nc na && not (xor nc nb)
 
 -- what the code answers where the sign of c is that of a, and where it is not
@@ -240,20 +238,6 @@ module _ (s a b : ℕ) (hs : 1 ≤ s) (ha : a < 256 ^ s) (hb : b < 256 ^ s) wher
 
 -- ---- INT_2COMP is a difference from 0
 
-flip : (s a : ℕ) → 0 < a → a < 256 ^ s → wrap s (negsuc (a - 1 - 0)) ≡ wrap s (pos (256 ^ s - a))
-unfolding wrap
-flip s a p ha =
-    let r : (a - 1 - 0) % 256 ^ s ≡ a - 1 - 0 = mod-eq-of-lt (omega arith) in
-    let t : (256 ^ s - a) % 256 ^ s ≡ 256 ^ s - a = mod-eq-of-lt (omega arith) in
-    rw (r, t) (omega arith)
-
 pub opposite-is : (s a : ℕ) → a < 256 ^ s → intSub s 0 a ≡ int2comp s a
-unfolding intSub int2comp
-opposite-is s a ha = by (ltb (2 * a) (256 ^ s)) refl
-  where
-    by : (t : Bool) → ltb (2 * a) (256 ^ s) ≡ t → wrap s (pos 0 -ℤ pos a) ≡ wrap s (negℤ (signed s a))
-    by true e = rw (signed-low s a (ltb-true _ _ e)) (ap (wrap s) (+ℤ-idl (negℤ (pos a))))
-    by false e =
-        let l : 256 ^ s ≤ 2 * a = ltb-false _ _ e in
-        let p : 0 < a = omega (arith, size-pos s) in
-        rw (from-high s a l, opposite, sub-pos (256 ^ s) a (omega arith), sub-neg 0 a p) (flip s a p ha)
+unfolding intSub int2comp wrap
+opposite-is s a ha = simp (+ℤ-idl, wrap-opposite, wrap-signed, mod-eq-of-lt)

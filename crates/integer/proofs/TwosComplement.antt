@@ -53,7 +53,7 @@ module _ (s x top : ℕ) (hs : s ≤ 8) (hx : x < 256 ^ s) (et : top ≡ 256 ^ s
       let a : x < 2 ^ 63 = omega arith in
       toZ-pos w64 x a ∙ sym (signed-low s x (omega arith))
 
-  pub high-small : top / 2 < x → top - x < 2 ^ 63
+  high-small : top / 2 < x → top - x < 2 ^ 63
   high-small h = let m : 256 ^ s ≤ 2 ^ 64 = size-most s hs in omega arith
 
   made : top / 2 < x → negsuc 0 -ℤ toZ w64 (top - x) ≡ negsuc (top - x)

@@ -1,8 +1,8 @@
 -- Laws of the operations on whole numbers, each once over the size. Assumes nothing.
-use mathlib.Core.Path.{_≡_, refl, sym, ap, ap₂, _∙_}
+use mathlib.Core.Path.{subst, _≡_, refl, sym, ap, ap₂, _∙_}
 use mathlib.Core.Bool.{Bool, true, false}
 use Prim.Native.Nat.{ℕ, zero, suc, _+_, _-_, _*_, _/_, _%_, _^_, _≤_, _<_}
-use native.Mathlib.Nat.{add-mul, mul-add, mul-assoc, mul-mul-mul-comm, mul-right-comm, mul-add-mod-self-right, le-of-lt, lt-of-le-of-lt, lt-of-lt-of-le, mul-le-mul-left, mul-lt-mul-of-pos-right, mod-eq-of-lt, div-eq-of-lt, zero-mod}
+use native.Mathlib.Nat.{add-mul, mul-add, mul-assoc, mul-mul-mul-comm, mul-right-comm, mul-add-mod-self-right, le-of-lt, lt-of-le-of-lt, lt-of-lt-of-le, mul-le-mul-left, mul-lt-mul-of-pos-right, div-eq-of-lt, zero-mod}
 use native.Mathlib.Omega.{arith}
 use borrow.Author.Tests.{lt-ltb, le-ltb, ltb-true, ltb-false}
 use lib.Dec.{lit<, ltb, leb}
@@ -10,24 +10,16 @@ use lib.Pow.{pow-add, mod-mod-pow}
 use lib.Arith as A
 use lib.IntN.{pos, negsuc, _-ℤ_}
 use Rattle.word.proofs.Tests.{leb-agree}
-use Rattle.word.proofs.Laws.{pow-bits}
 use Rattle.integer.specs.Integers.{wrap}
 use Rattle.integer.specs.Operations.{subpiece, intSub}
-use Rattle.word.proofs.Powers.{size-most, size-mono, flipped-low}
+use Rattle.word.proofs.Powers.{size-mono, flipped-low}
 
 -- ---- PIECE and SUBPIECE
 
--- the two halves fit a word where their sizes add up to at most 8
-pub piece-fits : (size size0 size1 a b : ℕ) → size0 + size1 ≡ size → size ≤ 8 → a < 256 ^ size0 → b < 256 ^ size1 → a * 256 ^ size1 + b < 2 ^ 64
-piece-fits size size0 size1 a b e h ha hb =
-    let digits : a * 256 ^ size1 + b < 256 ^ size0 * 256 ^ size1 = A.digits-lt ha hb in
-    let whole : 256 ^ size0 * 256 ^ size1 ≡ 256 ^ size = sym (pow-add 256 size0 size1) ∙ ap (λ (n : ℕ). 256 ^ n) e in
-    omega (arith, size-most size h)
-
-pub piece-is : (size1 a b : ℕ) → a * 256 ^ size1 + b < 2 ^ 64 → (a * 2 ^ (8 * size1)) % 2 ^ 64 + b ≡ a * 256 ^ size1 + b
-piece-is size1 a b h =
-    let fits : a * 256 ^ size1 < 2 ^ 64 = omega arith in
-    rw (← (pow-bits size1)) (ap (λ (n : ℕ). n + b) (mod-eq-of-lt fits))
+-- the two halves fit their sizes together
+pub piece-lt : (size size0 size1 a b : ℕ) → size0 + size1 ≡ size → a < 256 ^ size0 → b < 256 ^ size1 → a * 256 ^ size1 + b < 256 ^ size
+piece-lt size size0 size1 a b e ha hb =
+    subst (λ (n : ℕ). a * 256 ^ size1 + b < 256 ^ n) e (rw (pow-add 256 size0 size1) (A.digits-lt ha hb))
 
 -- all bytes are dropped
 pub dropped-all : (size a b : ℕ) → a < 2 ^ 64 → 8 ≤ b → subpiece size a b ≡ 0

@@ -1,3 +1,4 @@
 pub mod Integers
 pub mod Operations
 pub mod LeftOpen
+pub mod Manual

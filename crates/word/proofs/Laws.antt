@@ -3,16 +3,16 @@ use mathlib.Core.Path.{_≡_, refl, sym, ap, _∙_}
 use mathlib.Core.Bool.{Bool, true, false}
 use mathlib.Core.List.{List, [], _∷_}
 use Prim.Native.Nat.{ℕ, zero, suc, _+_, _-_, _*_, _/_, _%_, _^_, _≤_, _<_}
-use native.Mathlib.Nat.{mod-eq-of-lt, pow-le-pow-right, pow-suc}
+use native.Mathlib.Nat.{lt-of-lt-of-le, mul-lt-mul-of-pos-right, pow-succ', mod-eq-of-lt}
 use native.Mathlib.Omega.{arith}
 use borrow.Author.Tests.{ltb-true, ltb-false}
 use lib.Dec.{lit<, ltb}
-use lib.Pow.{pow-add, shl-exact}
 use lib.ListN.{length, getD, set, length-set}
 use lib.Seq.{sets, length-sets, getD-set-same, getD-set-other}
 use Rattle.word.specs.Sum.{sum, digit}
 use Rattle.word.specs.Word.{Bytes, part, significance, valueOf, bytesOf}
-use Rattle.word.proofs.Sums.{sum-cong, sum-mono, sum-reverse, tabulate-length, tabulate-at, tabulate-past, tabulate-cong, tabulate-is}
+use Rattle.word.proofs.Sums.{sum-cong, sum-mono, sum-reverse, tabulate-length, tabulate-at, tabulate-past, tabulate-is}
+use Rattle.word.proofs.Powers.{pow-bits, size-pos, size-most}
 use Rattle.word.proofs.Digits.{digit-lt, digits-lt, digits-sum, digit-of}
 
 -- ---- places and weights
@@ -47,10 +47,6 @@ part-length l at n = tabulate-length n (λ i. getD l (at + i) 0)
 pub part-at : (l : List ℕ) (at n i : ℕ) → i < n → getD (part l at n) i 0 ≡ getD l (at + i) 0
 unfolding part
 part-at l at n i h = tabulate-at n (λ k. getD l (at + k) 0) i h
-
-pub part-cong : (l m : List ℕ) (at n : ℕ) → ((i : ℕ) → i < n → getD l (at + i) 0 ≡ getD m (at + i) 0) → part l at n ≡ part m at n
-unfolding part
-part-cong l m at n h = tabulate-cong n (λ i. getD l (at + i) 0) (λ i. getD m (at + i) 0) h
 
 pub part-bytes : (l : List ℕ) (at n : ℕ) → Bytes l → Bytes (part l at n)
 unfolding part
@@ -145,16 +141,9 @@ written-read big bs h =
 
 -- ---- what gather and scatter do in a turn
 
-eight : (k : ℕ) → 8 * k + 8 ≡ 8 * suc k
-eight k = omega arith
-
-pub pow-bits : (n : ℕ) → 256 ^ n ≡ 2 ^ (8 * n)
-pow-bits zero = refl
-pow-bits (suc n) = pow-suc 256 n ∙ ap (λ (x : ℕ). x * 256) (pow-bits n) ∙ sym (pow-add 2 (8 * n) 8) ∙ ap (λ (x : ℕ). 2 ^ x) (eight n)
-
--- a byte moved up to its weight
-pub shifted : (b k : ℕ) → b < 256 → k < 8 → (b * 2 ^ (8 * k)) % 2 ^ 64 ≡ b * 256 ^ k
-shifted b k hb hk = shl-exact {a = b} 8 (8 * k) 64 hb (omega arith) ∙ ap (λ (x : ℕ). b * x) (sym (pow-bits k))
+-- a byte at its weight
+pub byte-fits : (b k : ℕ) → b < 256 → k < 8 → b * 256 ^ k < 2 ^ 64
+byte-fits b k hb hk = lt-of-lt-of-le (mul-lt-mul-of-pos-right hb (size-pos k)) (rw (← (pow-succ' 256 k)) (size-most (suc k) hk))
 
 value-part : (big : Bool) (l : List ℕ) (at n : ℕ) → valueOf big (part l at n) ≡ sum n (λ i. getD l (at + i) 0 * 256 ^ significance big n i)
 unfolding valueOf
@@ -184,7 +173,7 @@ module _ (big : Bool) (l : List ℕ) (at n : ℕ) where
   unfolding gathered
   gathered-fits h b i k =
       let whole : valueOf big (part l at n) < 256 ^ length (part l at n) = value-lt big (part l at n) (part-bytes l at n b) in
-      let size : 256 ^ length (part l at n) ≤ 2 ^ 64 = rw (part-length l at n) (pow-le-pow-right {n = 256} (lit< tt) h) in
+      let size : 256 ^ length (part l at n) ≤ 2 ^ 64 = rw (part-length l at n) (size-most n h) in
       omega (arith, sum-mono i n (λ j. getD l (at + j) 0 * 256 ^ significance big n j) k, value-part big l at n)
 
 -- the byte that scatter writes at place i

@@ -1,5 +1,5 @@
 pub mod Sums
 pub mod Digits
-pub mod Laws
 pub mod Powers
+pub mod Laws
 pub mod Tests

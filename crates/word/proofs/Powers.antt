@@ -1,20 +1,26 @@
 -- Powers of 256 and numbers cut to a size. Assumes nothing.
-use mathlib.Core.Path.{_≡_, sym, ap, _∙_, subst}
-use Prim.Native.Nat.{ℕ, _+_, _-_, _*_, _/_, _%_, _^_, _≤_, _<_}
-use native.Mathlib.Nat.{one-mul, mod-lt, mod-eq-of-lt, div-add-mod', lt-of-mul-lt-mul-right, mul-add-mod-self-right, pow-le-pow-right, one-le-pow}
+use mathlib.Core.Path.{_≡_, refl, sym, ap, _∙_, subst}
+use Prim.Native.Nat.{ℕ, zero, suc, _+_, _-_, _*_, _/_, _%_, _^_, _≤_, _<_}
+use native.Mathlib.Nat.{pow-suc, mod-lt, mod-eq-of-lt, div-add-mod', lt-of-mul-lt-mul-right, mul-add-mod-self-right, pow-le-pow-right, one-le-pow}
 use native.Mathlib.Omega.{arith}
 use lib.Dec.{lit<}
-use lib.Pow.{pow-add, shl-exact, mod-mod-pow, ones-split, ones-lt, high}
-use Rattle.word.proofs.Laws.{pow-bits}
+use lib.Pow.{pow-add, mod-mod-pow, ones-split, ones-lt, high}
+
+eight : (k : ℕ) → 8 * k + 8 ≡ 8 * suc k
+eight k = omega arith
+
+pub pow-bits : (n : ℕ) → 256 ^ n ≡ 2 ^ (8 * n)
+pow-bits zero = refl
+pow-bits (suc n) = pow-suc 256 n ∙ ap (λ (x : ℕ). x * 256) (pow-bits n) ∙ sym (pow-add 2 (8 * n) 8) ∙ ap (λ (x : ℕ). 2 ^ x) (eight n)
 
 pub size-pos : (s : ℕ) → 0 < 256 ^ s
 size-pos s = one-le-pow s 256 (lit< tt)
 
-pub size-most : (s : ℕ) → s ≤ 8 → 256 ^ s ≤ 2 ^ 64
-size-most s h = pow-le-pow-right {n = 256} (lit< tt) {i = s} {j = 8} h
-
 pub size-mono : (s t : ℕ) → s ≤ t → 256 ^ s ≤ 256 ^ t
 size-mono s t h = pow-le-pow-right {n = 256} (lit< tt) h
+
+pub size-most : (s : ℕ) → s ≤ 8 → 256 ^ s ≤ 2 ^ 64
+size-most s h = size-mono s 8 h
 
 -- how many numbers of size s a word holds, times their number
 word-of : (s : ℕ) → s ≤ 8 → 2 ^ 64 ≡ 2 ^ (64 - 8 * s) * 256 ^ s
@@ -22,8 +28,9 @@ word-of s h =
     let e : 64 ≡ (64 - 8 * s) + 8 * s = omega arith in
     rw (pow-bits s) (ap (λ (k : ℕ). 2 ^ k) e ∙ pow-add 2 (64 - 8 * s) (8 * s))
 
-pub one-shifted : (s : ℕ) → s < 8 → (1 * 2 ^ (8 * s)) % 2 ^ 64 ≡ 256 ^ s
-one-shifted s h = shl-exact {a = 1} 1 (8 * s) 64 (lit< tt) (omega arith) ∙ one-mul (2 ^ (8 * s)) ∙ sym (pow-bits s)
+-- a shift by whole bytes that loses nothing
+pub shifted-bytes : (a k : ℕ) → a * 256 ^ k < 2 ^ 64 → a * 2 ^ (8 * k) % 2 ^ 64 ≡ a * 256 ^ k
+shifted-bytes a k h = rw (← (pow-bits k)) (mod-eq-of-lt h)
 
 -- a remainder by 2^64 does not change the remainder by a smaller power
 pub low-part : (x s : ℕ) → s ≤ 8 → x % 2 ^ 64 % 256 ^ s ≡ x % 256 ^ s

@@ -1,6 +1,6 @@
 -- Laws of sums and tabulated lists. Assumes nothing.
 use mathlib.Core.Path.{_≡_, refl, sym, ap, ap₂, _∙_}
-use mathlib.Core.List.{List, _∷_}
+use mathlib.Core.List.{List}
 use Prim.Native.Nat.{ℕ, zero, suc, _+_, _-_, _≤_, _<_}
 use native.Mathlib.Nat.{le-refl}
 use native.Mathlib.Decide.{le-ind}
@@ -52,12 +52,6 @@ tabulate-at (suc n) f (suc i) h = tabulate-at n (λ k. f (suc k)) i (omega arith
 
 pub tabulate-past : (n : ℕ) (f : ℕ → ℕ) (i : ℕ) → n ≤ i → getD (tabulate n f) i 0 ≡ 0
 tabulate-past n f i h = List·getD-eq-default (tabulate n f) 0 (rw tabulate-length h)
-
-pub tabulate-cong : (n : ℕ) (f g : ℕ → ℕ) → ((i : ℕ) → i < n → f i ≡ g i) → tabulate n f ≡ tabulate n g
-unfolding tabulate
-tabulate-cong zero f g h = refl
-tabulate-cong (suc n) f g h =
-    ap₂ (λ (a : ℕ) (l : List ℕ). a ∷ l) (h 0 (omega arith)) (tabulate-cong n (λ i. f (suc i)) (λ i. g (suc i)) (λ i l. h (suc i) (omega arith)))
 
 -- a list is what its entries are
 pub tabulate-is : (n : ℕ) (f : ℕ → ℕ) (l : List ℕ) → length l ≡ n → ((i : ℕ) → i < n → f i ≡ getD l i 0) → tabulate n f ≡ l

@@ -41,6 +41,7 @@ fn weight(big: bool, n: usize, i: usize) -> usize
     if big { n - 1 - i } else { i }
 }
 
+// As a function, the cast asks for no proof where a byte of a slice is read.
 fn wide(x: u8) -> u64
     ensures { λ r. ⌜ r ≡ x ⌝ }
 {

@@ -75,6 +75,7 @@ fn every_pair_of_size_1_inputs() {
         }
     }
     println!("value, every pair of size 1 inputs: {agreed} agreed");
+    assert_eq!(agreed, 2_233_600, "inputs that should have been compared");
 }
 
 #[test]
@@ -88,6 +89,7 @@ fn boundary_values_at_every_mix_of_sizes() {
         }
     }
     println!("value, boundary values at every mix of sizes: {agreed} agreed");
+    assert_eq!(agreed, 1_443_868, "inputs that should have been compared");
 }
 
 #[test]
@@ -104,6 +106,7 @@ fn random_inputs() {
         }
     }
     println!("value, random inputs: seed {SEED:#x}, {agreed} agreed");
+    assert_eq!(agreed, 6_600_000, "inputs that should have been compared");
 }
 
 #[test]
@@ -116,6 +119,7 @@ fn shifts_by_0_to_200() {
         }
     }
     println!("value, shifts by 0 to 200: {agreed} agreed");
+    assert_eq!(agreed, 1_543_680, "inputs that should have been compared");
 }
 
 #[test]
@@ -130,6 +134,7 @@ fn shifts_by_large_amounts() {
         }
     }
     println!("value, shifts by large amounts: {agreed} agreed");
+    assert_eq!(agreed, 1_618_560, "inputs that should have been compared");
 }
 
 /// Amounts which, cut to fewer bits, look like a shift by less than the width.
@@ -159,6 +164,7 @@ fn subpiece_dropping_0_to_20_bytes() {
         }
     }
     println!("value, SUBPIECE dropping 0 to 20 bytes: {agreed} agreed");
+    assert_eq!(agreed, 430_080, "inputs that should have been compared");
 }
 
 #[test]

@@ -1,6 +1,7 @@
 -- `integer::unsigned::piece` meets its contract. Assumes nothing.
+use native.Mathlib.Omega.{arith}
 use borrow.Author.Needs.{needs}
-use Rattle.integer.proofs.Whole.{piece-is}
+use Rattle.word.proofs.Powers.{shifted-bytes}
 use Rattle.integer.specs.Operations.{piece}
 use Rattle.integer.proofs.unsigned.piece.Statement.{statement}
 use Rattle.integer.proofs.unsigned.piece.Tie as tie
@@ -12,11 +13,11 @@ shl-result : tie.Need-shl-result
 shl-result c = search needs
 
 add-result : tie.Need-add-result
-add-result c = record { fits = rw (piece-is _ _ _ (c .pre .1)) (c .pre .1) }
+add-result c = record { fits = rw (shifted-bytes (c .args .a) (c .args .size1) (omega arith)) (c .pre .1) }
 
 returns : tie.Need-returns
 unfolding piece
-returns c = piece-is _ _ _ (c .pre .1)
+returns c = rw (shifted-bytes (c .args .a) (c .args .size1) (omega arith))
 
 pub piece-spec : {M : Type 1} → statement M
 piece-spec = tie.close (tie.spec mul-result shl-result add-result returns)

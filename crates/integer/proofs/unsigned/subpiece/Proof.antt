@@ -3,7 +3,7 @@ use mathlib.Core.Path.{sym, _∙_}
 use borrow.Author.Needs.{needs}
 use Rattle.integer.proofs.Whole.{dropped-all}
 use Rattle.integer.specs.Operations.{subpiece}
-use Rattle.word.proofs.Laws.{pow-bits}
+use Rattle.word.proofs.Powers.{pow-bits}
 use Rattle.integer.proofs.unsigned.subpiece.Statement.{statement}
 use Rattle.integer.proofs.unsigned.subpiece.Tie as tie
 

@@ -7,7 +7,8 @@ use native.Mathlib.Omega.{arith}
 use borrow.Author.Needs.{needs}
 use lib.ListN.{getD}
 use Rattle.word.specs.Word.{significance}
-use Rattle.word.proofs.Laws.{shifted, gathered, gathered-none, gathered-more, gathered-all, gathered-fits}
+use Rattle.word.proofs.Powers.{shifted-bytes}
+use Rattle.word.proofs.Laws.{byte-fits, gathered, gathered-none, gathered-more, gathered-all, gathered-fits}
 use Rattle.word.proofs.bytes.gather.Statement.{statement}
 use Rattle.word.proofs.bytes.gather.Tie as tie
 
@@ -55,7 +56,7 @@ turn c =
     let e : c .wide .result * 256 ^ c .before .before .weight .result
     ≡ getD (a .s .now) (a .at + l .i) 0 * 256 ^ significance (a .big) (a .size) (l .i) =
     ap₂ (λ (x y : ℕ). x * 256 ^ y) (c .wide .ensures) (c .before .before .weight .ensures .0) in
-    ap₂ (λ (x y : ℕ). x + y) (l .inv .1) (shifted (c .wide .result) (c .before .before .weight .result) b k ∙ e)
+    ap₂ (λ (x y : ℕ). x + y) (l .inv .1) (shifted-bytes (c .wide .result) (c .before .before .weight .result) (byte-fits (c .wide .result) (c .before .before .weight .result) b k) ∙ e)
     ∙ sym (gathered-more (a .big) (a .s .now) (a .at) (a .size) (l .i))
 
 add-v : tie.Need-add-v Inv-loop μ-loop

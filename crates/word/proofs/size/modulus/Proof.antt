@@ -1,6 +1,11 @@
 -- `word::size::modulus` meets its contract. Assumes nothing.
+use Prim.Native.Nat.{_*_, _^_, _<_}
+use mathlib.Core.Path.{_∙_}
+use native.Mathlib.Nat.{one-mul, lt-of-le-of-lt}
+use native.Mathlib.Omega.{arith}
 use borrow.Author.Needs.{needs}
-use Rattle.word.proofs.Powers.{one-shifted}
+use lib.Dec.{lit<}
+use Rattle.word.proofs.Powers.{shifted-bytes, size-mono}
 use Rattle.word.proofs.size.modulus.Statement.{statement}
 use Rattle.word.proofs.size.modulus.Tie as tie
 
@@ -11,7 +16,10 @@ shl-result : tie.Need-shl-result
 shl-result c = search needs
 
 returns : tie.Need-returns
-returns c = one-shifted _ (c .pre)
+returns c =
+    let n = c .args .size in
+    let fits : 1 * 256 ^ n < 2 ^ 64 = rw one-mul (lt-of-le-of-lt (size-mono n 7 (omega arith)) (lit< tt)) in
+    shifted-bytes 1 n fits ∙ one-mul (256 ^ n)
 
 pub modulus-spec : {M : Type 1} → statement M
 modulus-spec = tie.close (tie.spec mul-result shl-result returns)

@@ -1,0 +1,49 @@
+/* Calls each function of the C interface through its header, and counts the answers that are as the header says. */
+#include "undrelvoa.h"
+
+#include <stdio.h>
+
+static int passed, failed;
+
+static void expect(const char *what, uint64_t answer, uint64_t wanted) {
+    if (answer == wanted) {
+        passed++;
+        return;
+    }
+    failed++;
+    printf("%s: %llu, not %llu\n", what, (unsigned long long)answer, (unsigned long long)wanted);
+}
+
+/* Paper 01, marked results: f9 by 02 signed = fd, INT_SREM ff; 11223344 without its low byte in 2 bytes is 2233. */
+static void values(void) {
+    uint64_t out[2] = {7, 9};
+    expect("INT_SDIV", undrelvoa_value(UNDRELVOA_INT_SDIV, 1, 1, 1, 0xf9, 0x02, out, 2), 0);
+    expect("f9 by 02", out[0], 0xfd);
+    expect("INT_SREM", undrelvoa_value(UNDRELVOA_INT_SREM, 1, 1, 1, 0xf9, 0x02, out, 2), 0);
+    expect("f9 by 02, remainder", out[0], 0xff);
+    expect("SUBPIECE", undrelvoa_value(UNDRELVOA_SUBPIECE, 2, 4, 4, 0x11223344, 1, out, 2), 0);
+    expect("11223344 without a byte", out[0], 0x2233);
+    expect("INT_DIV by 0", undrelvoa_value(UNDRELVOA_INT_DIV, 1, 1, 1, 1, 0, out, 2), 33);
+    expect("the word after a refusal", out[0], 0x2233);
+    expect("the word after the result", out[1], 9);
+}
+
+/* Paper 01, marked results: 123456 is 56 34 12 little, 12 34 56 big. */
+static void bytes(void) {
+    uint8_t memory[4] = {0, 0, 0, 0xaa};
+    uint64_t out[1] = {0};
+    expect("scatter, big", undrelvoa_scatter(1, memory, 4, 0, 3, 0x123456), 0);
+    expect("first byte", memory[0], 0x12);
+    expect("last byte", memory[2], 0x56);
+    expect("byte after", memory[3], 0xaa);
+    expect("gather, little", undrelvoa_gather(0, memory, 4, 0, 3, out, 1), 0);
+    expect("read in the other order", out[0], 0x563412);
+    expect("beyond the end", undrelvoa_gather(0, memory, 4, 2, 3, out, 1), 24);
+}
+
+int main(void) {
+    values();
+    bytes();
+    printf("%d passed, %d failed\n", passed, failed);
+    return failed != 0;
+}
