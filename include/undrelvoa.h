@@ -14,6 +14,8 @@
  *   25 SIZE     sizes that the operation does not allow together
  *   33 ZERO     a divisor of 0
  *
+ * undrelvoa_validate puts its verdict into a report, and answers 0 when it has done so.
+ *
  * A buffer is a pointer and the number of its elements. The pointer of an empty buffer is not read,
  * but must not be NULL. Buffers of one call must not overlap.
  */
@@ -108,6 +110,45 @@ uint64_t undrelvoa_gather(uint64_t order, const uint8_t *bytes, size_t bytes_len
  */
 uint64_t undrelvoa_scatter(uint64_t order, uint8_t *bytes, size_t bytes_len, uint64_t offset,
                            uint64_t size, uint64_t value);
+
+/* The verdict on a list of operations: paper 01's judge.
+ *
+ *   order         byte order: 0 little, 1 big
+ *   address_size  bytes of an address, 1 to 8
+ *   unique_len    bytes of the unique, register and ram spaces, at most 65,536 each
+ *   register_len
+ *   ram_len
+ *   list          the operations, five words each, only read
+ *   list_len      its words
+ *   report        report[0] to report[4] become ending, index, operations executed, log words written
+ *                 and value; further words stay as they are
+ *   report_len    words of report, at least 5
+ *
+ * The ending is 0 with the number of operations as index; or 10, 11 with index 0; or 21 to 26, the
+ * lowest rule that the first malformed operation breaks, with its index. The last three are 0.
+ * Answers 0 when the report is written, or 11.
+ */
+uint64_t undrelvoa_validate(uint64_t order, uint64_t address_size, uint64_t unique_len,
+                            uint64_t register_len, uint64_t ram_len, const uint64_t *list,
+                            size_t list_len, uint64_t *report, size_t report_len);
+
+/* Where the bytes of a varnode lie.
+ *
+ *   unique, register_space, ram   the three spaces, only read
+ *   unique_len, register_len, ram_len   their bytes
+ *   space        2 unique, 3 register, 4 ram
+ *   offset       where the varnode starts in its space
+ *   size         its bytes, 1 to 8
+ *   place        place[0] to place[2] become space, offset and number of bytes; all three are 0 for
+ *                any other space number, a size outside 1 to 8 or a place outside its space; further
+ *                words stay as they are
+ *   place_len    words of place, at least 3
+ *
+ * Answers 0 when the place is written, or 11.
+ */
+uint64_t undrelvoa_show(const uint8_t *unique, size_t unique_len, const uint8_t *register_space,
+                        size_t register_len, const uint8_t *ram, size_t ram_len, uint64_t space,
+                        uint64_t offset, uint64_t size, uint64_t *place, size_t place_len);
 
 #ifdef __cplusplus
 }

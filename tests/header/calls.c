@@ -41,9 +41,38 @@ static void bytes(void) {
     expect("beyond the end", undrelvoa_gather(0, memory, 4, 2, 3, out, 1), 24);
 }
 
+/* Paper 01, marked results: register length 16, size 4: offset 12 passes, 13 is RANGE. The operation is a COPY to unique. */
+static void verdicts(void) {
+    uint64_t list[5] = {0};
+    uint64_t report[6] = {7, 7, 7, 7, 7, 9};
+    list[0] = 1 | (uint64_t)0x24 << 8 | (uint64_t)0x34 << 16;
+    list[2] = 12;
+    expect("validate", undrelvoa_validate(0, 8, 16, 16, 16, list, 5, report, 6), 0);
+    expect("ending", report[0], 0);
+    expect("index", report[1], 1);
+    expect("the word after the report", report[5], 9);
+    list[2] = 13;
+    expect("validate", undrelvoa_validate(0, 8, 16, 16, 16, list, 5, report, 6), 0);
+    expect("offset 13", report[0], 24);
+    expect("short report", undrelvoa_validate(0, 8, 16, 16, 16, list, 5, report, 4), 11);
+}
+
+static void shown(void) {
+    uint8_t unique[4] = {0}, registers[4] = {0}, ram[4] = {0};
+    uint64_t place[3] = {7, 7, 7};
+    expect("show", undrelvoa_show(unique, 4, registers, 4, ram, 4, 3, 1, 3, place, 3), 0);
+    expect("space", place[0], 3);
+    expect("offset", place[1], 1);
+    expect("bytes", place[2], 3);
+    expect("show beyond the end", undrelvoa_show(unique, 4, registers, 4, ram, 4, 3, 2, 3, place, 3), 0);
+    expect("no bytes", place[2], 0);
+}
+
 int main(void) {
     values();
     bytes();
+    verdicts();
+    shown();
     printf("%d passed, %d failed\n", passed, failed);
     return failed != 0;
 }

@@ -1,9 +1,10 @@
 // Which operands the opcodes 10 to 42 take.
 ghost use mathlib.Core.Path.{_≡_};
-ghost use mathlib.Core.Bool.{_&&_, _||_};
 ghost use Prim.Native.Nat.{_+_};
 ghost use lib.Dec.{eqb};
 ghost use Rattle.arithmetic.specs.Operands.{unary, divides, sizesAgree};
+use integer::boolean::both;
+use integer::boolean::either;
 
 // By opcode, 0 to 42: 1 where the operation has no input1.
 const UNARY: [u8; 43] = [
@@ -139,19 +140,6 @@ pub fn sizes_agree(opcode: u64, size: u64, size0: u64, size1: u64) -> bool
         7 => true,
         _ => false,
     }
-}
-
-// As functions, `&&` and `||` add no branches, and so no cases, to the proofs of their callers.
-fn both(p: bool, q: bool) -> bool
-    ensures { λ r. ⌜ r ≡ p && q ⌝ }
-{
-    if p { q } else { false }
-}
-
-fn either(p: bool, q: bool) -> bool
-    ensures { λ r. ⌜ r ≡ p || q ⌝ }
-{
-    if p { true } else { q }
 }
 
 // size0 + size1 = size; the sum could wrap, so it is not made.

@@ -1,4 +1,5 @@
-// The C interface: include/undrelvoa.h says what each parameter is (its output_size is size here, and its result is out). A call that
+// The C interface: include/undrelvoa.h says what each parameter is. A slice here is a pointer and a length there; for the names that
+// differ, size is output_size and out is result, and the validator's unique, register and ram are the three lengths. A call that
 // answers another number than 0 changes no buffer.
 ghost use mathlib.Core.Path.{_≡_};
 ghost use mathlib.Core.Bool.{cond};
@@ -7,7 +8,10 @@ ghost use lib.ListN.{length, set};
 ghost use lib.Seq.{sets};
 ghost use Rattle.word.specs.Word.{part, valueOf, bytesOf};
 ghost use Rattle.arithmetic.specs.Result.{result};
+ghost use Rattle.exports.specs.Answers.{roomFault, verdictWords, shownLength, placeWords};
 ghost use Rattle.exports.specs.Faults.{valueFault, gatherFault, scatterFault};
+use operation::layout::Lengths;
+use operation::layout::Settings;
 
 mod faults;
 
@@ -68,4 +72,82 @@ pub extern "C" fn undrelvoa_scatter(
     }
     word::bytes::scatter(order == 1, bytes, offset as usize, size as usize, value);
     0
+}
+
+#[no_mangle]
+pub extern "C" fn undrelvoa_validate(
+    order: u64,
+    address_size: u64,
+    unique: u64,
+    register: u64,
+    ram: u64,
+    list: &[u64],
+    report: &mut [u64],
+) -> u64
+    ensures answer { λ r. ⌜ r ≡ roomFault 5 (length (now (report .entry))) ⌝ }
+    ensures buffer { λ r. ⌜ now (report .exit) ≡ cond (eqb r 0) (sets (now (report .entry)) 0 (verdictWords order «address_size» unique register ram (now (list .entry)))) (now (report .entry)) ⌝ }
+{
+    if report.len() < 5 {
+        return 11;
+    }
+    let settings = Settings {
+        order: order,
+        address_size: address_size,
+    };
+    let lengths = Lengths {
+        unique: unique,
+        register: register,
+        ram: ram,
+    };
+    let verdict = interpreter::validate(settings, lengths, list);
+    report[0] = verdict.ending;
+    report[1] = verdict.index;
+    report[2] = verdict.executed;
+    report[3] = verdict.logged;
+    report[4] = verdict.value;
+    0
+}
+
+#[no_mangle]
+pub extern "C" fn undrelvoa_show<'a>(
+    unique: &'a [u8],
+    register: &'a [u8],
+    ram: &'a [u8],
+    space: u64,
+    offset: u64,
+    size: u64,
+    place: &mut [u64],
+) -> u64
+    ensures answer { λ r. ⌜ r ≡ roomFault 3 (length (now (place .entry))) ⌝ }
+    ensures buffer { λ r. ⌜ now (place .exit) ≡ cond (eqb r 0) (sets (now (place .entry)) 0 (placeWords (now (unique .entry)) (now (register .entry)) (now (ram .entry)) space offset size)) (now (place .entry)) ⌝ }
+{
+    if place.len() < 3 {
+        return 11;
+    }
+    let shown = shown_bytes(unique, register, ram, space, offset, size);
+    if shown == 0 {
+        place[0] = 0;
+        place[1] = 0;
+        place[2] = 0;
+    } else {
+        place[0] = space;
+        place[1] = offset;
+        place[2] = shown;
+    }
+    0
+}
+
+// How many bytes are shown.
+fn shown_bytes<'a>(
+    unique: &'a [u8],
+    register: &'a [u8],
+    ram: &'a [u8],
+    space: u64,
+    offset: u64,
+    size: u64,
+) -> u64
+    ensures { λ r. ⌜ r ≡ shownLength (now (unique .entry)) (now (register .entry)) (now (ram .entry)) space offset size ⌝ }
+{
+    let part = interpreter::show(unique, register, ram, space, offset, size);
+    part.len() as u64
 }

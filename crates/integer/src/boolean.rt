@@ -1,5 +1,6 @@
 // Truth values: 0 is false, and every other number is true.
 ghost use mathlib.Core.Path.{_≡_};
+ghost use mathlib.Core.Bool.{_&&_, _||_};
 ghost use Rattle.integer.specs.Operations.{flag, boolXor, boolAnd, boolOr};
 
 pub fn flag(b: bool) -> u64
@@ -33,4 +34,17 @@ pub fn or(a: u64, b: u64) -> u64
         return flag(b != 0);
     }
     1
+}
+
+// As functions, `&&` and `||` add no branches, and so no cases, to the proofs of their callers.
+pub fn both(p: bool, q: bool) -> bool
+    ensures { λ r. ⌜ r ≡ p && q ⌝ }
+{
+    if p { q } else { false }
+}
+
+pub fn either(p: bool, q: bool) -> bool
+    ensures { λ r. ⌜ r ≡ p || q ⌝ }
+{
+    if p { true } else { q }
 }

@@ -26,6 +26,30 @@ pub const GOOD_AND_BAD_SIZES: [u64; 17] = [
     u64::MAX,
 ];
 
+/// Byte orders, and numbers that are none.
+pub const GOOD_ORDERS: [u64; 2] = [0, 1];
+pub const GOOD_AND_BAD_ORDERS: [u64; 6] = [0, 1, 2, 256, (1 << 32) + 1, u64::MAX];
+
+/// Offsets that wrap when a size is added, or fit when cut to fewer bits.
+pub const LARGE_OFFSETS: [u64; 16] = [
+    1 << 16,
+    1 << 32,
+    (1 << 32) + 1,
+    1 << 63,
+    (1 << 63) + 1,
+    u64::MAX - 10,
+    u64::MAX - 9,
+    u64::MAX - 8,
+    u64::MAX - 7,
+    u64::MAX - 6,
+    u64::MAX - 5,
+    u64::MAX - 4,
+    u64::MAX - 3,
+    u64::MAX - 2,
+    u64::MAX - 1,
+    u64::MAX,
+];
+
 /// The largest value of `size` bytes, 0 to 8.
 pub fn largest_value(size: u64) -> u64 {
     all_ones(size) as u64

@@ -6,7 +6,7 @@ use compare::inputs::{
 };
 use compare::random::Random;
 use reference::answers::ValueCall;
-use reference::opcodes::{Operation, Sizes, INTEGER_OPERATIONS};
+use reference::opcodes::{Operation, Sizes, ANY_ADDRESS_SIZE, INTEGER_OPERATIONS};
 
 const RANDOM_INPUTS_PER_OPCODE: u64 = 200_000;
 const DAMAGED_CALLS: u64 = 500_000;
@@ -64,8 +64,8 @@ fn shifts() -> Vec<&'static Operation> {
 #[test]
 fn every_pair_of_size_1_inputs() {
     let mut agreed = 0;
-    for operation in &INTEGER_OPERATIONS {
-        for sizes in operation.allowed_sizes() {
+    for operation in INTEGER_OPERATIONS {
+        for sizes in operation.allowed_sizes(ANY_ADDRESS_SIZE) {
             if sizes.input0 > 1 || sizes.input1 > 1 {
                 continue;
             }
@@ -81,8 +81,8 @@ fn every_pair_of_size_1_inputs() {
 #[test]
 fn boundary_values_at_every_mix_of_sizes() {
     let mut agreed = 0;
-    for operation in &INTEGER_OPERATIONS {
-        for sizes in operation.allowed_sizes() {
+    for operation in INTEGER_OPERATIONS {
+        for sizes in operation.allowed_sizes(ANY_ADDRESS_SIZE) {
             let inputs0 = boundary_values(sizes.input0);
             let inputs1 = boundary_values(sizes.input1);
             agreed += check_pairs(operation, sizes, &inputs0, &inputs1);
@@ -97,8 +97,8 @@ fn random_inputs() {
     const SEED: u64 = 0x5eed_0001;
     let mut random = Random::new(SEED);
     let mut agreed = 0;
-    for operation in &INTEGER_OPERATIONS {
-        let mixes = operation.allowed_sizes();
+    for operation in INTEGER_OPERATIONS {
+        let mixes = operation.allowed_sizes(ANY_ADDRESS_SIZE);
         for _ in 0..RANDOM_INPUTS_PER_OPCODE {
             let result_len = 1 + random.below(MOST_RESULT_WORDS);
             check_taken(&random_call(operation, &mixes, &mut random), result_len);
@@ -114,7 +114,7 @@ fn shifts_by_0_to_200() {
     let amounts: Vec<u64> = (0..=200).collect();
     let mut agreed = 0;
     for operation in shifts() {
-        for sizes in operation.allowed_sizes() {
+        for sizes in operation.allowed_sizes(ANY_ADDRESS_SIZE) {
             agreed += check_pairs(operation, sizes, &boundary_values(sizes.input0), &amounts);
         }
     }
@@ -127,7 +127,7 @@ fn shifts_by_large_amounts() {
     let amounts = large_amounts();
     let mut agreed = 0;
     for operation in shifts() {
-        for sizes in operation.allowed_sizes() {
+        for sizes in operation.allowed_sizes(ANY_ADDRESS_SIZE) {
             if sizes.input1 == 8 {
                 agreed += check_pairs(operation, sizes, &boundary_values(sizes.input0), &amounts);
             }
@@ -159,7 +159,7 @@ fn subpiece_dropping_0_to_20_bytes() {
     let dropped: Vec<u64> = (0..=20).collect();
     let mut agreed = 0;
     for operation in named(&["SUBPIECE"]) {
-        for sizes in operation.allowed_sizes() {
+        for sizes in operation.allowed_sizes(ANY_ADDRESS_SIZE) {
             agreed += check_pairs(operation, sizes, &boundary_values(sizes.input0), &dropped);
         }
     }
@@ -179,14 +179,14 @@ fn opcodes_out_of_range_are_refused() {
             }
         }
     }
-    tally.assert_answers(&[0, 21, 22, 25, 33]);
+    tally.assert_numbers(&[0, 21, 22, 25, 33]);
     println!("value, opcodes out of range: {tally}");
 }
 
 #[test]
 fn sizes_out_of_range_or_not_together_are_refused() {
     let mut tally = Tally::default();
-    for operation in &INTEGER_OPERATIONS {
+    for operation in INTEGER_OPERATIONS {
         for output in GOOD_AND_BAD_SIZES {
             for input0 in GOOD_AND_BAD_SIZES {
                 for input1 in GOOD_AND_BAD_SIZES {
@@ -195,7 +195,7 @@ fn sizes_out_of_range_or_not_together_are_refused() {
             }
         }
     }
-    tally.assert_answers(&[0, 22, 24, 25, 33]);
+    tally.assert_numbers(&[0, 22, 24, 25, 33]);
     println!("value, sizes out of range or not together: {tally}");
 }
 
@@ -210,8 +210,8 @@ fn check_sizes(operation: &Operation, sizes: Sizes, tally: &mut Tally) {
 #[test]
 fn values_too_large_are_refused() {
     let mut tally = Tally::default();
-    for operation in &INTEGER_OPERATIONS {
-        for sizes in operation.allowed_sizes() {
+    for operation in INTEGER_OPERATIONS {
+        for sizes in operation.allowed_sizes(ANY_ADDRESS_SIZE) {
             let inputs0 = values_around_the_largest(sizes.input0);
             let inputs1 = values_around_the_largest(sizes.input1);
             for &input0 in &inputs0 {
@@ -222,7 +222,7 @@ fn values_too_large_are_refused() {
             }
         }
     }
-    tally.assert_answers(&[0, 24, 33]);
+    tally.assert_numbers(&[0, 24, 33]);
     println!("value, values too large: {tally}");
 }
 
@@ -239,14 +239,14 @@ fn values_around_the_largest(size: u64) -> Vec<u64> {
 fn zero_divisors_are_refused() {
     let mut tally = Tally::default();
     for operation in INTEGER_OPERATIONS.iter().filter(|operation| operation.divides()) {
-        for sizes in operation.allowed_sizes() {
+        for sizes in operation.allowed_sizes(ANY_ADDRESS_SIZE) {
             for input0 in boundary_values(sizes.input0) {
                 let call = ValueCall { opcode: operation.number(), sizes, input0, input1: 0 };
                 tally.count(check_value(&call, 1));
             }
         }
     }
-    tally.assert_answers(&[33]);
+    tally.assert_numbers(&[33]);
     println!("value, zero divisors: {tally}");
 }
 
@@ -262,7 +262,7 @@ fn an_empty_result_is_refused() {
             }
         }
     }
-    tally.assert_answers(&[11]);
+    tally.assert_numbers(&[11]);
     println!("value, empty result: {tally}");
 }
 
@@ -271,7 +271,8 @@ fn randomly_damaged_calls() {
     const SEED: u64 = 0x5eed_0002;
     let mut random = Random::new(SEED);
     let mut tally = Tally::default();
-    let mixes: Vec<Vec<Sizes>> = INTEGER_OPERATIONS.iter().map(Operation::allowed_sizes).collect();
+    let allowed = |operation: &Operation| operation.allowed_sizes(ANY_ADDRESS_SIZE);
+    let mixes: Vec<Vec<Sizes>> = INTEGER_OPERATIONS.iter().map(allowed).collect();
     for _ in 0..DAMAGED_CALLS {
         let index = random.below(INTEGER_OPERATIONS.len() as u64) as usize;
         let mut call = random_call(&INTEGER_OPERATIONS[index], &mixes[index], &mut random);
@@ -281,7 +282,7 @@ fn randomly_damaged_calls() {
         let result_len = if random.once_in(20) { 0 } else { 1 + random.below(MOST_RESULT_WORDS) };
         tally.count(check_value(&call, result_len));
     }
-    tally.assert_answers(&[0, 11, 21, 22, 24, 25, 33]);
+    tally.assert_numbers(&[0, 11, 21, 22, 24, 25, 33]);
     println!("value, randomly damaged calls: seed {SEED:#x}, {tally}");
 }
 

@@ -2,10 +2,12 @@
 
 use std::ops::Range;
 
-use crate::arithmetic::{modulus, value};
+use crate::arithmetic::{fits, value};
 use crate::bytes::{read, write, ByteOrder};
 use crate::fault;
-use crate::opcodes::{is_operand_size, Operation, Sizes};
+use crate::opcodes::{Operation, Sizes, ANY_ADDRESS_SIZE};
+use crate::varnode::{is_operand_size, show, Lengths, Varnode};
+use crate::verdict::{verdict, Settings};
 
 /// An integer operation with the values of its inputs. An absent input1 has size 0 and value 0.
 #[derive(Clone, Copy, Debug)]
@@ -24,12 +26,21 @@ pub struct Place {
     pub size: u64,
 }
 
+/// A list to judge, with the settings and the spaces that it is for.
+#[derive(Clone, Debug)]
+pub struct VerdictCall {
+    pub settings: Settings,
+    pub lengths: Lengths,
+    pub list: Vec<u64>,
+}
+
 /// The value of an operation, for a caller who lends `result_len` result words.
 pub fn value_answer(call: &ValueCall, result_len: usize) -> Result<u64, u64> {
     if result_len == 0 {
         return Err(fault::LENGTH);
     }
-    let Some(operation) = Operation::with_number(call.opcode) else {
+    let Some(operation) = Operation::with_number(call.opcode).filter(|found| found.is_integer())
+    else {
         return Err(fault::HEAD);
     };
     if !operation.shape_allows(call.sizes) {
@@ -38,7 +49,7 @@ pub fn value_answer(call: &ValueCall, result_len: usize) -> Result<u64, u64> {
     if !fits(call.input0, call.sizes.input0) || !fits(call.input1, call.sizes.input1) {
         return Err(fault::RANGE);
     }
-    if !operation.size_rule.allows(call.sizes) {
+    if !operation.size_rule.allows(call.sizes, ANY_ADDRESS_SIZE) {
         return Err(fault::SIZE);
     }
     if operation.divides() && call.input1 == 0 {
@@ -82,9 +93,25 @@ pub fn scatter_answer(place: &Place, bytes: &mut [u8], value: u64) -> Result<(),
     Ok(())
 }
 
-/// Whether a value is below 256^size, for a size of at most 8.
-fn fits(value: u64, size: u64) -> bool {
-    u128::from(value) < modulus(size)
+/// The report of the judge, for a caller who lends `report_len` report words.
+pub fn verdict_answer(call: &VerdictCall, report_len: usize) -> Result<[u64; 5], u64> {
+    if report_len < 5 {
+        return Err(fault::LENGTH);
+    }
+    Ok(verdict(&call.settings, &call.lengths, &call.list).numbers())
+}
+
+/// The space, the offset and the bytes of the part that is shown, all 0 for an empty one, for a
+/// caller who lends `place_len` place words.
+pub fn show_answer(
+    lengths: &Lengths,
+    varnode: &Varnode,
+    place_len: usize,
+) -> Result<[u64; 3], u64> {
+    if place_len < 3 {
+        return Err(fault::LENGTH);
+    }
+    Ok(show(lengths, varnode).map_or([0; 3], |part| [part.space, part.offset, part.size]))
 }
 
 /// The indices of the value's bytes, if all of them are in the buffer. The sum does not wrap.
@@ -139,6 +166,13 @@ mod tests {
     }
 
     #[test]
+    fn value_takes_no_operation_before_piece() {
+        for opcode in 0..10 {
+            assert_eq!(value_answer(&ValueCall { opcode, ..DIVISION }, 1), Err(21));
+        }
+    }
+
+    #[test]
     fn lowest_fault_of_gather_comes_first() {
         let bytes = [0x12, 0x34, 0x56];
         let mut place = Place { order: 1, offset: 1, size: 2 };
@@ -175,5 +209,24 @@ mod tests {
         let place = Place { order: 0, offset: 1, size: 2 };
         assert_eq!(scatter_answer(&place, &mut bytes, 0x1234), Ok(()));
         assert_eq!(bytes, [0xa0, 0x34, 0x12, 0xa3]);
+    }
+
+    #[test]
+    fn a_short_report_is_refused() {
+        let settings = Settings { order: 2, address_size: 9 };
+        let lengths = Lengths { unique: 0, register: 0, ram: 0 };
+        let call = VerdictCall { settings, lengths, list: vec![0; 3] };
+        assert_eq!(verdict_answer(&call, 4), Err(11));
+        assert_eq!(verdict_answer(&call, 5), Ok([10, 0, 0, 0, 0]));
+    }
+
+    #[test]
+    fn a_short_place_is_refused() {
+        let lengths = Lengths { unique: 0, register: 16, ram: 0 };
+        let mut varnode = Varnode { space: 3, offset: 12, size: 4 };
+        assert_eq!(show_answer(&lengths, &varnode, 2), Err(11));
+        assert_eq!(show_answer(&lengths, &varnode, 3), Ok([3, 12, 4]));
+        varnode.offset = 13;
+        assert_eq!(show_answer(&lengths, &varnode, 3), Ok([0, 0, 0]));
     }
 }

@@ -4,8 +4,8 @@
 
 use crate::opcodes::{Opcode, Sizes};
 
-/// The value of the output, for inputs below 256^size, sizes that rule 25 allows, and a divisor
-/// that is not 0.
+/// The value of an integer operation's output, for inputs below 256^size, sizes that rule 25 allows,
+/// and a divisor that is not 0.
 pub fn value(opcode: Opcode, sizes: Sizes, input0: u64, input1: u64) -> u64 {
     let a = u128::from(input0);
     let b = u128::from(input1);
@@ -44,6 +44,15 @@ pub fn value(opcode: Opcode, sizes: Sizes, input0: u64, input1: u64) -> u64 {
         Opcode::BoolXor => boolean(is_true(a) != is_true(b)),
         Opcode::BoolAnd => boolean(is_true(a) && is_true(b)),
         Opcode::BoolOr => boolean(is_true(a) || is_true(b)),
+        Opcode::Copy
+        | Opcode::Load
+        | Opcode::Store
+        | Opcode::Branch
+        | Opcode::Cbranch
+        | Opcode::BranchInd
+        | Opcode::Call
+        | Opcode::CallInd
+        | Opcode::Return => panic!("{opcode:?} is no integer operation"),
     };
     u64::try_from(output).expect("an output of at most 8 bytes")
 }
@@ -51,6 +60,11 @@ pub fn value(opcode: Opcode, sizes: Sizes, input0: u64, input1: u64) -> u64 {
 /// How many values `size` bytes have: 256^size.
 pub fn modulus(size: u64) -> u128 {
     (0..size).fold(1, |product, _| product * 256)
+}
+
+/// Whether a number is a value of `size` bytes, 0 to 8: below 256^size.
+pub fn fits(number: u64, size: u64) -> bool {
+    u128::from(number) < modulus(size)
 }
 
 /// The value of `size` bytes with every bit set.

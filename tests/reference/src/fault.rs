@@ -1,16 +1,20 @@
 //! The numbers that paper 01 gives to faults.
 
-/// A byte order that is neither 0 nor 1.
+/// A byte order that is neither 0 nor 1, or an address size that is not 1 to 8.
 pub const SETTING: u64 = 10;
-/// A lent buffer that is too short to hold the result.
+/// A lent buffer that is too short to hold the result, or a list or a space of a wrong length.
 pub const LENGTH: u64 = 11;
-/// An opcode out of range.
+/// An opcode out of range, or a spare head byte that is not zero.
 pub const HEAD: u64 = 21;
-/// A size that is not 1 to 8, or an operand present or absent against the manual.
+/// A space or a size out of range, or an operand present or absent against the manual.
 pub const SHAPE: u64 = 22;
+/// A varnode in a space where its operation does not allow it.
+pub const PLACE: u64 = 23;
 /// Bytes beyond the end of a buffer, or a value that is not below 256^size.
 pub const RANGE: u64 = 24;
 /// Sizes that the operation does not allow together.
 pub const SIZE: u64 = 25;
+/// A relative branch to outside of the list.
+pub const TARGET: u64 = 26;
 /// A divisor of 0.
 pub const ZERO: u64 = 33;

@@ -9,4 +9,7 @@ pub mod answers;
 pub mod arithmetic;
 pub mod bytes;
 pub mod fault;
+pub mod list;
 pub mod opcodes;
+pub mod varnode;
+pub mod verdict;

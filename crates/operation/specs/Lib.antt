@@ -1,0 +1,4 @@
+pub mod Layout
+pub mod Shapes
+pub mod Rules
+pub mod Decoding

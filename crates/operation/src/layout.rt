@@ -1,0 +1,84 @@
+// How operations lie in their words.
+ghost use mathlib.Core.Path.{_≡_};
+ghost use Prim.Native.Nat.{_+_, _*_, _<_, _≤_};
+ghost use lib.ListN.{length};
+ghost use Rattle.word.specs.Sum.{digit};
+ghost use Rattle.operation.specs.Layout.{wordsPerOperation, mostInputs, wordAt, headByte, opcodeAt, describedBy, varnodeAt};
+
+// Words to an operation, inputs that one can have, and the last opcode.
+pub const WORDS: usize = 5;
+
+pub const MOST_INPUTS: u8 = 3;
+
+pub const LAST_OPCODE: u64 = 42;
+
+pub struct Varnode {
+    pub space: u64,
+    pub offset: u64,
+    pub size: u64,
+}
+
+pub struct Settings {
+    pub order: u64,
+    pub address_size: u64,
+}
+
+// The lengths of the three spaces with bytes.
+pub struct Lengths {
+    pub unique: u64,
+    pub register: u64,
+    pub ram: u64,
+}
+
+// Word k of operation i.
+pub fn word_at(list: &[u64], i: usize, k: usize) -> u64
+    requires { ⌜ wordsPerOperation * i + k < length (now list) ⌝ }
+    ensures { λ r. ⌜ r ≡ wordAt (now (list .entry)) i k ⌝ }
+{
+    list[WORDS * i + k]
+}
+
+// Byte k of a word, from the least significant.
+fn byte(w: u64, k: u8) -> u64
+    requires { ⌜ k < 8 ⌝ }
+    ensures { λ r. ⌜ r ≡ digit 256 w k ⌝ }
+{
+    (w >> (8 * (k as u64))) % 256
+}
+
+// Byte k of the head of operation i.
+pub fn head_byte(list: &[u64], i: usize, k: u8) -> u64
+    requires { ⌜ (wordsPerOperation * i < length (now list)) × (k < 8) ⌝ }
+    ensures { λ r. ⌜ r ≡ headByte (now (list .entry)) i k ⌝ }
+{
+    byte(word_at(list, i, 0), k)
+}
+
+pub fn opcode_at(list: &[u64], i: usize) -> u64
+    requires { ⌜ wordsPerOperation * i < length (now list) ⌝ }
+    ensures { λ r. ⌜ r ≡ opcodeAt (now (list .entry)) i ⌝ }
+{
+    head_byte(list, i, 0)
+}
+
+// A descriptor is space * 16 + size.
+pub fn described_by(descriptor: u64, offset: u64) -> Varnode
+    ensures { λ r. ⌜ r ≡ describedBy descriptor offset ⌝ }
+{
+    Varnode {
+        space: descriptor / 16,
+        offset: offset,
+        size: descriptor % 16,
+    }
+}
+
+// The varnode at a place of operation i: 0 is the output's place, 1 to 3 are the inputs'.
+pub fn varnode_at(list: &[u64], i: usize, place: u8) -> Varnode
+    requires { ⌜ (wordsPerOperation * i + wordsPerOperation ≤ length (now list)) × (place ≤ mostInputs) ⌝ }
+    ensures { λ r. ⌜ r ≡ varnodeAt (now (list .entry)) i place ⌝ }
+{
+    described_by(
+        head_byte(list, i, place + 1),
+        word_at(list, i, place as usize + 1),
+    )
+}

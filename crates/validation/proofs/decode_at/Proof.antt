@@ -1,0 +1,49 @@
+-- `validation::decode_at` meets its contract. Assumes nothing.
+use Prim.Native.Nat.{ℕ}
+use mathlib.Core.Path.{_∙_, ap}
+use borrow.Author.Needs.{needs}
+use Rattle.validation.proofs.Walk.{same-decoding}
+use Rattle.operation.specs.Layout.{descriptorAt, offsetAt}
+use Rattle.operation.specs.Shapes.{hasPlace}
+use Rattle.validation.proofs.decode_at.Statement.{statement}
+use Rattle.validation.proofs.decode_at.Tie as tie
+
+opcode-at-requires : tie.Need-opcode-at-requires
+opcode-at-requires c κs = search needs
+
+has-place-requires : tie.Need-has-place-requires
+has-place-requires c κs = search needs
+
+add-head-byte : tie.Need-add-head-byte
+add-head-byte c = search needs
+
+head-byte-requires : tie.Need-head-byte-requires
+head-byte-requires c κs = search needs
+
+add-word-at : tie.Need-add-word-at
+add-word-at c = search needs
+
+word-at-requires : tie.Need-word-at-requires
+word-at-requires c κs = search needs
+
+decode-requires : tie.Need-decode-requires
+decode-requires c κs = search needs
+
+returns : tie.Need-returns
+unfolding descriptorAt offsetAt
+returns c =
+    c .decode .ensures
+    ∙ same-decoding (c .before .before .before .has-place .ensures ∙ ap (λ (n : ℕ). hasPlace n (c .before .before .before .before .before .before .args .place)) (c .before .before .before .before .opcode-at .ensures)) (c .before .before .head-byte .ensures) (c .before .word-at .ensures)
+
+pub decode-at-spec : {M : Type 1} → statement M
+decode-at-spec =
+    tie.close
+    (tie.spec
+    opcode-at-requires
+    has-place-requires
+    add-head-byte
+    head-byte-requires
+    add-word-at
+    word-at-requires
+    decode-requires
+    returns)

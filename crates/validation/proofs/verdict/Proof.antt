@@ -1,0 +1,51 @@
+-- `validation::verdict` meets its contract. Assumes nothing.
+use mathlib.Core.Path.{sym, _∙_}
+use borrow.Author.Needs.{needs}
+use borrow.Author.Tests.{not-true, not-false}
+use Rattle.validation.specs.Verdict.{verdict}
+use Rattle.validation.proofs.verdict.Statement.{statement}
+use Rattle.validation.proofs.verdict.Tie as tie
+
+settings-in-range-requires : tie.Need-settings-in-range-requires
+settings-in-range-requires c κs = search needs
+
+nothing-ran-requires : tie.Need-nothing-ran-requires
+nothing-ran-requires c κs = search needs
+
+returns : tie.Need-returns
+unfolding verdict
+returns c = rw (sym (c .before .before .settings-in-range .ensures) ∙ not-true _ (c .before .if1 .taken)) (c .nothing-ran .ensures)
+
+lengths-in-range-requires : tie.Need-lengths-in-range-requires
+lengths-in-range-requires c κs = search needs
+
+nothing-ran-requires-2 : tie.Need-nothing-ran-requires-2
+nothing-ran-requires-2 c κs = search needs
+
+returns-2 : tie.Need-returns-2
+unfolding verdict
+returns-2 c = rw (sym (c .before .before .before .before .settings-in-range .ensures) ∙ not-false _ (c .before .before .before .if1 .left), sym (c .before .before .lengths-in-range .ensures) ∙ not-true _ (c .before .if2 .taken)) (c .nothing-ran2 .ensures)
+
+first-malformed-requires : tie.Need-first-malformed-requires
+first-malformed-requires c κs = search needs
+
+nothing-ran-requires-3 : tie.Need-nothing-ran-requires-3
+nothing-ran-requires-3 c κs = search needs
+
+returns-3 : tie.Need-returns-3
+unfolding verdict
+returns-3 c = rw (sym (c .before .before .before .before .before .settings-in-range .ensures) ∙ not-false _ (c .before .before .before .before .if1 .left), sym (c .before .before .before .lengths-in-range .ensures) ∙ not-false _ (c .before .before .if2 .left), sym (c .before .first-malformed .ensures)) (c .nothing-ran3 .ensures)
+
+pub verdict-spec : {M : Type 1} → statement M
+verdict-spec =
+    tie.close
+    (tie.spec
+    settings-in-range-requires
+    nothing-ran-requires
+    returns
+    lengths-in-range-requires
+    nothing-ran-requires-2
+    returns-2
+    first-malformed-requires
+    nothing-ran-requires-3
+    returns-3)

@@ -1,0 +1,33 @@
+-- What the verdict 0 says of each operation of a list: a field for each rule, in its words.
+use Prim.Native.Nat.{ℕ, _+_, _^_, _≤_, _<_}
+use mathlib.Core.Bool.{true, false}
+use mathlib.Core.List.{List}
+use mathlib.Core.Path.{_≡_}
+use lib.IntN.{pos}
+use Rattle.operation.specs.declared.layout.Lengths.{Lengths}
+use Rattle.operation.specs.Layout.{lastOpcode, mostInputs, operationCount, headByte, opcodeAt, varnodeAt}
+use Rattle.operation.specs.Shapes.{hasPlace}
+use Rattle.operation.specs.Rules.{branches, breaksPlace, lengthOf, breaksSize, relativeTarget}
+
+pub record WellFormed (addressSize : ℕ) (lengths : Lengths) (list : List ℕ) (i : ℕ) : Type 0 where
+  -- 21: an opcode of 1 to 42, and no spare byte that is not zero
+  pub opcode : (1 ≤ opcodeAt list i) × (opcodeAt list i ≤ lastOpcode)
+  pub spare : (headByte list i 5 ≡ 0) × (headByte list i 6 ≡ 0) × (headByte list i 7 ≡ 0)
+  -- 22: a varnode that the manual has is in a space of 1 to 4, with a size of 1 to 8; any other is absent, with offset 0
+  pub present : (place : ℕ) → place ≤ mostInputs → hasPlace (opcodeAt list i) place ≡ true
+      → (1 ≤ varnodeAt list i place .space) × (varnodeAt list i place .space ≤ 4)
+      × (1 ≤ varnodeAt list i place .size) × (varnodeAt list i place .size ≤ 8)
+  pub absent : (place : ℕ) → place ≤ mostInputs → hasPlace (opcodeAt list i) place ≡ false
+      → varnodeAt list i place ≡ record { space = 0; offset = 0; size = 0 }
+  -- 23: every varnode is where it has to be
+  pub placed : (place : ℕ) → place ≤ mostInputs → breaksPlace (opcodeAt list i) place (varnodeAt list i place) ≡ false
+  -- 24: a varnode of space 2 to 4 is within its space, and a constant below 256^size, but for branch destinations
+  pub within : (place : ℕ) → place ≤ mostInputs → (place ≡ 1 → branches (opcodeAt list i) ≡ false) → 2 ≤ varnodeAt list i place .space
+      → varnodeAt list i place .offset + varnodeAt list i place .size ≤ lengthOf lengths (varnodeAt list i place .space)
+  pub constant : (place : ℕ) → place ≤ mostInputs → (place ≡ 1 → branches (opcodeAt list i) ≡ false) → varnodeAt list i place .space ≡ 1
+      → varnodeAt list i place .offset < 256 ^ varnodeAt list i place .size
+  -- 25: the sizes are as required
+  pub sized : breaksSize addressSize (opcodeAt list i) (varnodeAt list i 0 .size) (varnodeAt list i 1 .size) (varnodeAt list i 2 .size) ≡ false
+  -- 26: a relative target is an index from 0 to n
+  pub target : branches (opcodeAt list i) ≡ true → varnodeAt list i 1 .space ≡ 1
+      → (t : ℕ) × (t ≤ operationCount list) × (relativeTarget i (varnodeAt list i 1 .offset) ≡ pos t)

@@ -1,0 +1,107 @@
+//! Varnodes, the spaces that they lie in, and showing one.
+
+/// The numbers that paper 01 gives to the spaces.
+pub const CONSTANT: u64 = 1;
+pub const UNIQUE: u64 = 2;
+pub const REGISTER: u64 = 3;
+pub const RAM: u64 = 4;
+
+/// A space, an offset and a size, of any numbers.
+#[derive(Clone, Copy, Debug, PartialEq, Eq)]
+pub struct Varnode {
+    pub space: u64,
+    pub offset: u64,
+    pub size: u64,
+}
+
+/// How many bytes the three lent spaces have.
+#[derive(Clone, Copy, Debug, PartialEq, Eq)]
+pub struct Lengths {
+    pub unique: u64,
+    pub register: u64,
+    pub ram: u64,
+}
+
+impl Lengths {
+    /// How many bytes a space has, if it is a lent one.
+    pub fn of(&self, space: u64) -> Option<u64> {
+        match space {
+            UNIQUE => Some(self.unique),
+            REGISTER => Some(self.register),
+            RAM => Some(self.ram),
+            _ => None,
+        }
+    }
+
+    /// Whether all bytes of a varnode are in its space, a lent one. The sum does not wrap.
+    pub fn contain(&self, varnode: &Varnode) -> bool {
+        let end = u128::from(varnode.offset) + u128::from(varnode.size);
+        self.of(varnode.space).is_some_and(|len| end <= u128::from(len))
+    }
+}
+
+/// Shows a varnode: the part of its space that it is, if there is one. A space may be longer than a
+/// list could use; only the place matters.
+pub fn show(lengths: &Lengths, varnode: &Varnode) -> Option<Varnode> {
+    let is_part = is_operand_size(varnode.size) && lengths.contain(varnode);
+    is_part.then_some(*varnode)
+}
+
+/// Whether a varnode that is present may have this size.
+pub fn is_operand_size(size: u64) -> bool {
+    (1..=8).contains(&size)
+}
+
+#[cfg(test)]
+mod tests {
+    use super::*;
+
+    const LENGTHS: Lengths = Lengths { unique: 3, register: 16, ram: 65_540 };
+
+    fn shows(space: u64, offset: u64, size: u64) -> bool {
+        let varnode = Varnode { space, offset, size };
+        let shown = show(&LENGTHS, &varnode);
+        assert!(shown.is_none() || shown == Some(varnode));
+        shown.is_some()
+    }
+
+    #[test]
+    fn a_part_ends_where_its_space_ends() {
+        assert!(shows(UNIQUE, 0, 3));
+        assert!(shows(UNIQUE, 2, 1));
+        assert!(!shows(UNIQUE, 0, 4));
+        assert!(!shows(UNIQUE, 3, 1));
+        assert!(shows(REGISTER, 12, 4));
+        assert!(!shows(REGISTER, 13, 4));
+    }
+
+    #[test]
+    fn offset_and_size_do_not_wrap() {
+        for offset in [u64::MAX, u64::MAX - 3, u64::MAX - 7] {
+            assert!(!shows(RAM, offset, 4));
+            assert!(!shows(RAM, offset, 8));
+        }
+    }
+
+    #[test]
+    fn only_lent_spaces_are_shown() {
+        for space in [0, CONSTANT, 5, 16 + REGISTER, 256 + REGISTER, u64::MAX] {
+            assert!(!shows(space, 0, 1));
+        }
+    }
+
+    #[test]
+    fn only_1_to_8_bytes_are_shown() {
+        for size in [0, 9, 16, 256 + 1, u64::MAX] {
+            assert!(!shows(REGISTER, 0, size));
+        }
+        assert!(shows(REGISTER, 0, 1));
+        assert!(shows(REGISTER, 0, 8));
+    }
+
+    #[test]
+    fn reading_15_a_long_space_is_shown() {
+        assert!(shows(RAM, 65_532, 8));
+        assert!(!shows(RAM, 65_533, 8));
+    }
+}
