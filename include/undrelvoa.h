@@ -29,8 +29,17 @@
 extern "C" {
 #endif
 
-/* The opcodes of the integer operations. */
+/* The opcodes. Those from UNDRELVOA_PIECE on have a value. */
 enum undrelvoa_opcode {
+    UNDRELVOA_COPY = 1,
+    UNDRELVOA_LOAD = 2,
+    UNDRELVOA_STORE = 3,
+    UNDRELVOA_BRANCH = 4,
+    UNDRELVOA_CBRANCH = 5,
+    UNDRELVOA_BRANCHIND = 6,
+    UNDRELVOA_CALL = 7,
+    UNDRELVOA_CALLIND = 8,
+    UNDRELVOA_RETURN = 9,
     UNDRELVOA_PIECE = 10,
     UNDRELVOA_SUBPIECE = 11,
     UNDRELVOA_POPCOUNT = 12,
@@ -118,7 +127,10 @@ uint64_t undrelvoa_scatter(uint64_t order, uint8_t *bytes, size_t bytes_len, uin
  *   unique_len    bytes of the unique, register and ram spaces, at most 65,536 each
  *   register_len
  *   ram_len
- *   list          the operations, five words each, only read
+ *   list          the operations, five words each, only read: a head, then the offsets of output, input0,
+ *                 input1 and input2. The head's bytes, least significant first, are the opcode, a
+ *                 descriptor for each of these four (space * 16 + size, or 0 for an absent one, with
+ *                 offset 0), and three zeros
  *   list_len      its words
  *   report        report[0] to report[4] become ending, index, operations executed, log words written
  *                 and value; further words stay as they are

@@ -1,18 +1,13 @@
 -- What holds of a call in which no fault was found. Assumes nothing.
 use Prim.Native.Nat.{ℕ, _+_, _^_, _≤_, _<_}
 use mathlib.Core.Bool.{Bool, true, false, cond, not, _&&_}
-use mathlib.Core.Path.{_≡_, refl}
+use mathlib.Core.Path.{_≡_}
 use native.Mathlib.Omega.{arith}
 use borrow.Author.Tests.{leb-true, ltb-true, eqb-true, eqb-false, not-false}
 use lib.Dec.{eqb, leb, ltb}
 use Rattle.arithmetic.specs.Operands.{unary, divides, sizesAgree, Operands}
-use Rattle.integer.proofs.Booleans.{both}
+use Rattle.integer.proofs.Booleans.{both, passed}
 use Rattle.exports.specs.Faults.{oneToEight, sizesPresent, valueFault, gatherFault, scatterFault}
-
--- a test that was passed, and the tests after it
-passed : (t : Bool) (n rest : ℕ) → 0 < n → cond t n rest ≡ 0 → (t ≡ false) × (rest ≡ 0)
-passed true n rest h e = absurd (let z : ⊥ = omega arith in z)
-passed false n rest h e = (refl, e)
 
 one-to-eight : (n : ℕ) → oneToEight n ≡ true → (1 ≤ n) × (n ≤ 8)
 unfolding oneToEight

@@ -1,6 +1,6 @@
 // The C interface: include/undrelvoa.h says what each parameter is. A slice here is a pointer and a length there; for the names that
-// differ, size is output_size and out is result, and the validator's unique, register and ram are the three lengths. A call that
-// answers another number than 0 changes no buffer.
+// differ, size is output_size, out is result, show's register is register_space, and the validator's unique, register and ram are the
+// three lengths. A call that answers another number than 0 changes no buffer.
 ghost use mathlib.Core.Path.{_≡_};
 ghost use mathlib.Core.Bool.{cond};
 ghost use lib.Dec.{eqb};
@@ -124,7 +124,7 @@ pub extern "C" fn undrelvoa_show<'a>(
     if place.len() < 3 {
         return 11;
     }
-    let shown = shown_bytes(unique, register, ram, space, offset, size);
+    let shown = shown_length(unique, register, ram, space, offset, size);
     if shown == 0 {
         place[0] = 0;
         place[1] = 0;
@@ -138,7 +138,7 @@ pub extern "C" fn undrelvoa_show<'a>(
 }
 
 // How many bytes are shown.
-fn shown_bytes<'a>(
+fn shown_length<'a>(
     unique: &'a [u8],
     register: &'a [u8],
     ram: &'a [u8],

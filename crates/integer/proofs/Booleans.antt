@@ -1,7 +1,8 @@
 -- Laws of Booleans. Assumes nothing.
 use mathlib.Core.Path.{_≡_, refl}
-use mathlib.Core.Bool.{Bool, true, false, not, xor, _&&_, _||_}
-use Prim.Native.Nat.{_<_}
+use mathlib.Core.Bool.{Bool, true, false, cond, not, xor, _&&_, _||_}
+use native.Mathlib.Omega.{arith}
+use Prim.Native.Nat.{ℕ, _<_}
 use lib.Dec.{lit<}
 use Rattle.integer.specs.Operations.{flag}
 
@@ -28,6 +29,20 @@ both false t e = (e, cc)
 pub not-not : (t : Bool) → not (not t) ≡ t
 not-not true = refl
 not-not false = refl
+
+-- neither side of a disjunction that fails
+pub neither : (s t : Bool) → s || t ≡ false → (s ≡ false) × (t ≡ false)
+neither true t e = (e, cc)
+neither false t e = (refl, e)
+
+pub or-true : (s t : Bool) → t ≡ true → s || t ≡ true
+or-true true t e = refl
+or-true false t e = e
+
+-- a test that was passed, and the tests after it
+pub passed : (t : Bool) (n rest : ℕ) → 0 < n → cond t n rest ≡ 0 → (t ≡ false) × (rest ≡ 0)
+passed true n rest h e = absurd (let z : ⊥ = omega arith in z)
+passed false n rest h e = (refl, e)
 
 -- a result of a comparison is 0 or 1
 pub flag-lt : (t : Bool) → flag t < 2

@@ -1,4 +1,4 @@
-// The public calls. None asks anything of its caller: bad input gets its numbered answer.
+// The public calls. None asks anything of its caller: the validator answers bad input by number, and show by an empty part.
 ghost use mathlib.Core.Path.{_≡_};
 ghost use Rattle.validation.specs.Verdict.{verdict};
 ghost use Rattle.interpreter.specs.Show.{view, showable, shownIn, shown};

@@ -1,2 +1,3 @@
 pub mod Tables
 pub mod Targets
+pub mod Decoding

@@ -1,18 +1,21 @@
 // Decoding the varnode at a place.
 ghost use mathlib.Core.Path.{_≡_};
-ghost use Rattle.operation.specs.Rules.{describesVarnode};
-ghost use Rattle.operation.specs.Decoding.{decoded};
+ghost use mathlib.Core.Bool.{cond};
+ghost use Rattle.operation.specs.Rules.{breaksShape, describesVarnode};
+ghost use Rattle.operation.specs.Decoding.{decoded, ruleOf};
 use super::layout::Varnode;
 use super::layout::described_by;
 
 pub enum Decoded {
-    Present(Varnode),
+    Accepted(Varnode),
     Fault,
 }
 
-// The varnode of a descriptor and its offset word, where the manual wants one or not; an absent one has size 0. A fault is rule 22.
+// The varnode of a descriptor and its offset word, where the manual wants one or not; one that is rightly absent has size 0. A fault is
+// rule 22.
 pub fn decode(wanted: bool, descriptor: u64, offset: u64) -> Decoded
-    ensures { λ r. ⌜ r ≡ decoded wanted descriptor offset ⌝ }
+    ensures answer { λ r. ⌜ r ≡ decoded wanted descriptor offset ⌝ }
+    ensures rule { λ r. ⌜ ruleOf r ≡ cond (breaksShape wanted descriptor offset) 22 0 ⌝ }
 {
     if descriptor == 0 {
         if wanted {
@@ -21,11 +24,11 @@ pub fn decode(wanted: bool, descriptor: u64, offset: u64) -> Decoded
         if offset != 0 {
             return Decoded::Fault;
         }
-        return Decoded::Present(described_by(descriptor, offset));
+        return Decoded::Accepted(described_by(descriptor, offset));
     }
     if wanted {
         if describes_varnode(descriptor) {
-            return Decoded::Present(described_by(descriptor, offset));
+            return Decoded::Accepted(described_by(descriptor, offset));
         }
     }
     Decoded::Fault

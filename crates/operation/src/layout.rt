@@ -6,7 +6,7 @@ ghost use Rattle.word.specs.Sum.{digit};
 ghost use Rattle.operation.specs.Layout.{wordsPerOperation, mostInputs, wordAt, headByte, opcodeAt, describedBy, varnodeAt};
 
 // Words to an operation, inputs that one can have, and the last opcode.
-pub const WORDS: usize = 5;
+pub const WORDS_PER_OPERATION: usize = 5;
 
 pub const MOST_INPUTS: u8 = 3;
 
@@ -35,7 +35,7 @@ pub fn word_at(list: &[u64], i: usize, k: usize) -> u64
     requires { ⌜ wordsPerOperation * i + k < length (now list) ⌝ }
     ensures { λ r. ⌜ r ≡ wordAt (now (list .entry)) i k ⌝ }
 {
-    list[WORDS * i + k]
+    list[WORDS_PER_OPERATION * i + k]
 }
 
 // Byte k of a word, from the least significant.

@@ -108,7 +108,7 @@ fn outputs(opcode: u64) -> u8
 }
 
 // The number of inputs of an operation.
-pub fn inputs(opcode: u64) -> u8
+fn inputs(opcode: u64) -> u8
     ensures { λ r. ⌜ r ≡ inputs opcode ⌝ }
 {
     if LAST_OPCODE < opcode {

@@ -6,14 +6,14 @@ use mathlib.Core.Path.{_≡_, refl, sym, ap, _∙_}
 use native.Mathlib.Omega.{arith}
 use borrow.Author.Tests.{leb-true, eq-eqb, ne-eqb, eqb-true, ltb-true, ltb-false}
 use lib.Dec.{eqb, leb, ltb}
-use Rattle.integer.proofs.Booleans.{both}
+use Rattle.integer.proofs.Booleans.{both, or-true}
 use Rattle.operation.specs.declared.layout.Varnode.{Varnode}
 use Rattle.operation.specs.declared.layout.Lengths.{Lengths}
-use Rattle.operation.specs.declared.decode.Decoded.the-variants.{Present, Fault}
+use Rattle.operation.specs.declared.decode.Decoded.the-variants.{Accepted, Fault}
 use Rattle.operation.specs.Layout.{operationCount, opcodeAt, describedBy, varnodeAt}
 use Rattle.operation.specs.Rules.{breaksHead, describesVarnode, breaksShape, breaksShapeAt, breaksPlace, breaksRange, breaksSize, breaksTarget}
 use Rattle.operation.specs.Decoding.{decoded}
-use Rattle.validation.specs.Verdict.{firstMalformed, malformed, anyBelow, anyPlace, lowestRule}
+use Rattle.validation.specs.Verdict.{firstMalformed, malformed, anyBelow, anyPlace, lowestRule, sizeOrTarget}
 
 -- ---- the first malformed operation
 
@@ -62,10 +62,6 @@ any-more f k = let e : k + 1 ≡ suc k = omega arith in rw e
 pub any-grows : (f : ℕ → Bool) (k : ℕ) {m q r : Bool} → r ≡ m || q → m ≡ anyBelow k f → q ≡ f k → r ≡ anyBelow (k + 1) f
 any-grows f k er em eq = er ∙ rw (em, eq) (sym (any-more f k))
 
-or-true : (p q : Bool) → q ≡ true → p || q ≡ true
-or-true true q e = refl
-or-true false q e = e
-
 any-at : (f : ℕ → Bool) (n k : ℕ) → k < n → f k ≡ true → anyBelow n f ≡ true
 unfolding anyBelow
 any-at f zero k h e = absurd (let z : ⊥ = omega arith in z)
@@ -106,9 +102,7 @@ module _ (a : ℕ) (lengths : Lengths) (list : List ℕ) (i : ℕ) where
         at-range t = rw (head, shape, placed, t)
 
         pub at-last : (r : ℕ) → anyBelow 4 (λ place. breaksRange lengths (opcodeAt list i) place (varnodeAt list i place)) ≡ false
-            → r
-            ≡ cond (breaksSize a (opcodeAt list i) (varnodeAt list i 0 .size) (varnodeAt list i 1 .size) (varnodeAt list i 2 .size)) 25
-            (cond (breaksTarget (operationCount list) i (opcodeAt list i) (varnodeAt list i 1)) 26 0)
+            → r ≡ sizeOrTarget a list i
             → lowestRule a lengths list i ≡ r
         unfolding lowestRule anyPlace
         at-last r t e = rw (head, shape, placed, t) (sym e)
@@ -119,24 +113,24 @@ pub fault-of : (wanted : Bool) (d o : ℕ) → decoded wanted d o ≡ Fault → 
 unfolding decoded
 fault-of wanted d o = by (breaksShape wanted d o)
   where
-    by : (t : Bool) → cond t Fault (Present (describedBy d o)) ≡ Fault → t ≡ true
+    by : (t : Bool) → cond t Fault (Accepted (describedBy d o)) ≡ Fault → t ≡ true
     by true e = refl
     by false e = cc
 
 module _ (wanted : Bool) (d o : ℕ) (v : Varnode) where
-  pub shape-of : decoded wanted d o ≡ Present v → breaksShape wanted d o ≡ false
+  pub shape-of : decoded wanted d o ≡ Accepted v → breaksShape wanted d o ≡ false
   unfolding decoded
   shape-of = by (breaksShape wanted d o)
     where
-      by : (t : Bool) → cond t Fault (Present (describedBy d o)) ≡ Present v → t ≡ false
+      by : (t : Bool) → cond t Fault (Accepted (describedBy d o)) ≡ Accepted v → t ≡ false
       by true e = cc
       by false e = refl
 
-  pub varnode-of : decoded wanted d o ≡ Present v → v ≡ describedBy d o
+  pub varnode-of : decoded wanted d o ≡ Accepted v → v ≡ describedBy d o
   unfolding decoded
   varnode-of = by (breaksShape wanted d o)
     where
-      by : (t : Bool) → cond t Fault (Present (describedBy d o)) ≡ Present v → v ≡ describedBy d o
+      by : (t : Bool) → cond t Fault (Accepted (describedBy d o)) ≡ Accepted v → v ≡ describedBy d o
       by true e = cc
       by false e = cc
 
@@ -170,7 +164,7 @@ passed-size wanted d o e = by wanted (passed-shape wanted d o e)
     by true t = described d t .3
     by false t = let z : d ≡ 0 = eqb-true d 0 (both (eqb d 0) (eqb o 0) t .0) in rw z (omega arith)
 
-pub present-size : (wanted : Bool) (d o : ℕ) (v : Varnode) → decoded wanted d o ≡ Present v → v .size ≤ 8
+pub present-size : (wanted : Bool) (d o : ℕ) (v : Varnode) → decoded wanted d o ≡ Accepted v → v .size ≤ 8
 present-size wanted d o v e = rw (varnode-of wanted d o v e) (passed-size wanted d o (shape-of wanted d o v e))
 
 -- ---- rules of equal operations

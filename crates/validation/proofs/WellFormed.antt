@@ -8,15 +8,14 @@ use borrow.Author.Tests.{leb-true, ltb-true, ltb-false, eqb-true, eqb-false, eq-
 use lib.Dec.{eqb, leb, ltb}
 use lib.IntN.{ℤ, pos, negsuc}
 use lib.Signed.{ltZ}
-use Rattle.integer.proofs.Booleans.{both}
+use Rattle.integer.proofs.Booleans.{both, passed, neither}
 use Rattle.operation.specs.declared.layout.Varnode.{Varnode}
 use Rattle.operation.specs.declared.layout.Lengths.{Lengths}
-use Rattle.operation.specs.declared.layout.Settings.{Settings}
 use Rattle.operation.specs.Layout.{mostInputs, operationCount, headByte, opcodeAt, descriptorAt, offsetAt, describedBy, varnodeAt}
 use Rattle.operation.specs.Shapes.{hasPlace}
 use Rattle.operation.specs.Rules.{branches, breaksHead, breaksShapeAt, describesVarnode, breaksPlace, lengthOf, beyond, breaksRange, breaksSize, relativeTarget, targetOutside, breaksTarget}
-use Rattle.validation.specs.Verdict.{settingsInRange, lengthsInRange, firstMalformed, nothingRan, malformed, verdict, anyPlace, lowestRule}
-use Rattle.validation.specs.WellFormed.{WellFormed}
+use Rattle.validation.specs.Verdict.{settingsInRange, lengthsInRange, firstMalformed, nothingRan, malformed, verdict, anyPlace, lowestRule, sizeOrTarget}
+use Rattle.validation.specs.WellFormed.{WellFormed, VerdictZero}
 use Rattle.validation.proofs.Walk.{none-at, passed-shape, described}
 
 -- ---- no operation breaks a rule
@@ -35,15 +34,6 @@ none-found f (suc m) i e k l h = by (eqb (f i) 0) refl (λ r. none-found f m (i 
         later true s = let q : i < k = ltb-true i k s in ih r (omega arith) (omega arith)
         later false s = let q : i ≡ k = omega (arith, ltb-false i k s) in rw (← q) (eqb-true (f i) 0 t)
     by false t ih r = absurd (eqb-false (f i) 0 t r)
-
-passed : (t : Bool) (n rest : ℕ) → 0 < n → cond t n rest ≡ 0 → (t ≡ false) × (rest ≡ 0)
-passed true n rest h e = absurd (let z : ⊥ = omega arith in z)
-passed false n rest h e = (refl, e)
-
--- neither side of a disjunction that fails
-neither : (p q : Bool) → p || q ≡ false → (p ≡ false) × (q ≡ false)
-neither true q e = (e, cc)
-neither false q e = (refl, e)
 
 -- ---- the fields
 
@@ -109,7 +99,7 @@ is-target n i opcode v e b h = within-list n (relativeTarget i (v .offset)) (rw 
 -- ---- the law
 
 pub no-rule-broken : (a : ℕ) (lengths : Lengths) (list : List ℕ) (i : ℕ) → lowestRule a lengths list i ≡ 0 → WellFormed a lengths list i
-unfolding lowestRule anyPlace breaksHead
+unfolding lowestRule anyPlace sizeOrTarget breaksHead
 no-rule-broken a lengths list i e =
     let t1 = passed (breaksHead list i) 21 _ (omega arith) e in
     let t2 = passed (anyPlace (breaksShapeAt list i)) 22 _ (omega arith) (t1 .1) in
@@ -133,10 +123,7 @@ no-rule-broken a lengths list i e =
       target = is-target (operationCount list) i (opcodeAt list i) (varnodeAt list i 1) (t6 .0);
     }
 
--- the verdict 0: settings and lengths in range, and every operation well-formed
-pub verdict-zero : (settings : Settings) (lengths : Lengths) (list : List ℕ) → verdict settings lengths list .ending ≡ 0
-    → (settingsInRange settings ≡ true) × (lengthsInRange lengths list ≡ true)
-    × ((i : ℕ) → i < operationCount list → WellFormed (settings .«address_size») lengths list i)
+pub verdict-zero : VerdictZero
 unfolding verdict nothingRan malformed
 verdict-zero settings lengths list e = by (settingsInRange settings) refl (lengthsInRange lengths list) refl
   where

@@ -37,6 +37,12 @@ anyBelow (suc n) f = anyBelow n f || f n
 unfoldable pub anyPlace : (ℕ → Bool) → Bool
 anyPlace f = anyBelow (mostInputs + 1) f
 
+-- 25 or 26, the rules on an operation as a whole, or 0.
+unfoldable pub sizeOrTarget : (addressSize : ℕ) → List ℕ → (i : ℕ) → ℕ
+sizeOrTarget addressSize list i =
+    cond (breaksSize addressSize (opcodeAt list i) (varnodeAt list i 0 .size) (varnodeAt list i 1 .size) (varnodeAt list i 2 .size)) 25
+    (cond (breaksTarget (operationCount list) i (opcodeAt list i) (varnodeAt list i 1)) 26 0)
+
 -- The lowest rule that operation i breaks; 0 where it breaks none.
 unfoldable pub lowestRule : (addressSize : ℕ) → Lengths → List ℕ → (i : ℕ) → ℕ
 lowestRule addressSize lengths list i =
@@ -45,8 +51,7 @@ lowestRule addressSize lengths list i =
     (cond (anyPlace (breaksShapeAt list i)) 22
     (cond (anyPlace (λ place. breaksPlace opcode place (varnodeAt list i place))) 23
     (cond (anyPlace (λ place. breaksRange lengths opcode place (varnodeAt list i place))) 24
-    (cond (breaksSize addressSize opcode (varnodeAt list i 0 .size) (varnodeAt list i 1 .size) (varnodeAt list i 2 .size)) 25
-    (cond (breaksTarget (operationCount list) i opcode (varnodeAt list i 1)) 26 0)))))
+    (sizeOrTarget addressSize list i))))
 
 -- The first of m operations from index i on that breaks a rule, with the lowest rule it breaks; where there is none, rule 0 and the
 -- index after them.

@@ -1,13 +1,15 @@
--- What the verdict 0 says of each operation of a list: a field for each rule, in its words.
+-- What the verdict 0 says of a list, and of each of its operations: a field for each rule, in a form that a run can use.
 use Prim.Native.Nat.{ℕ, _+_, _^_, _≤_, _<_}
 use mathlib.Core.Bool.{true, false}
 use mathlib.Core.List.{List}
 use mathlib.Core.Path.{_≡_}
 use lib.IntN.{pos}
+use Rattle.operation.specs.declared.layout.Settings.{Settings}
 use Rattle.operation.specs.declared.layout.Lengths.{Lengths}
 use Rattle.operation.specs.Layout.{lastOpcode, mostInputs, operationCount, headByte, opcodeAt, varnodeAt}
 use Rattle.operation.specs.Shapes.{hasPlace}
 use Rattle.operation.specs.Rules.{branches, breaksPlace, lengthOf, breaksSize, relativeTarget}
+use Rattle.validation.specs.Verdict.{settingsInRange, lengthsInRange, verdict}
 
 pub record WellFormed (addressSize : ℕ) (lengths : Lengths) (list : List ℕ) (i : ℕ) : Type 0 where
   -- 21: an opcode of 1 to 42, and no spare byte that is not zero
@@ -31,3 +33,9 @@ pub record WellFormed (addressSize : ℕ) (lengths : Lengths) (list : List ℕ) 
   -- 26: a relative target is an index from 0 to n
   pub target : branches (opcodeAt list i) ≡ true → varnodeAt list i 1 .space ≡ 1
       → (t : ℕ) × (t ≤ operationCount list) × (relativeTarget i (varnodeAt list i 1 .offset) ≡ pos t)
+
+-- The verdict 0: settings and lengths in range, and every operation well-formed.
+abbrev pub VerdictZero : Type 0
+VerdictZero = (settings : Settings) (lengths : Lengths) (list : List ℕ) → verdict settings lengths list .ending ≡ 0
+    → (settingsInRange settings ≡ true) × (lengthsInRange lengths list ≡ true)
+    × ((i : ℕ) → i < operationCount list → WellFormed (settings .«address_size») lengths list i)

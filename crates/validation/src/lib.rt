@@ -1,20 +1,17 @@
 // Paper 01's judge: the verdict on a list of operations.
 ghost use mathlib.Core.Path.{_≡_};
-ghost use mathlib.Core.Bool.{cond};
 ghost use Prim.Native.Nat.{_+_, _*_, _≤_, _<_};
 ghost use lib.ListN.{length};
-ghost use Rattle.operation.specs.Layout.{wordsPerOperation, mostInputs, operationCount, opcodeAt, descriptorAt, offsetAt, varnodeAt};
-ghost use Rattle.operation.specs.Shapes.{hasPlace};
-ghost use Rattle.operation.specs.Rules.{breaksSize, breaksTarget};
-ghost use Rattle.operation.specs.Decoding.{decoded};
-ghost use Rattle.validation.specs.Verdict.{settingsInRange, lengthsInRange, malformed, verdict, nothingRan};
+ghost use Rattle.operation.specs.Layout.{wordsPerOperation, mostInputs};
+ghost use Rattle.operation.specs.Decoding.{decodedAt};
+ghost use Rattle.validation.specs.Verdict.{settingsInRange, lengthsInRange, sizeOrTarget, malformed, verdict, nothingRan};
 use integer::boolean::either;
 use operation::decode::Decoded;
 use operation::decode::decode;
 use operation::layout::Lengths;
 use operation::layout::MOST_INPUTS;
 use operation::layout::Settings;
-use operation::layout::WORDS;
+use operation::layout::WORDS_PER_OPERATION;
 use operation::layout::head_byte;
 use operation::layout::opcode_at;
 use operation::layout::varnode_at;
@@ -85,10 +82,10 @@ pub fn lengths_in_range(lengths: Lengths, list: &[u64]) -> bool
     let unique = lengths.unique;
     let register = lengths.register;
     let ram = lengths.ram;
-    if list.len() % WORDS != 0 {
+    if list.len() % WORDS_PER_OPERATION != 0 {
         return false;
     }
-    if MOST_OPERATIONS < list.len() / WORDS {
+    if MOST_OPERATIONS < list.len() / WORDS_PER_OPERATION {
         return false;
     }
     if MOST_BYTES < unique {
@@ -105,7 +102,7 @@ pub fn lengths_in_range(lengths: Lengths, list: &[u64]) -> bool
 pub fn first_malformed(address_size: u64, lengths: Lengths, list: &[u64]) -> Malformed
     ensures { λ r. ⌜ r ≡ malformed «address_size» lengths (now (list .entry)) ⌝ }
 {
-    let count = list.len() / WORDS;
+    let count = list.len() / WORDS_PER_OPERATION;
     let mut rule: u64 = 0;
     let mut i: usize = 0;
     'operations: while i < count {
@@ -118,7 +115,7 @@ pub fn first_malformed(address_size: u64, lengths: Lengths, list: &[u64]) -> Mal
         let mut outside = false;
         let mut place: u8 = 0;
         while place <= MOST_INPUTS {
-            let Decoded::Present(v) = decode_at(list, i, place) else {
+            let Decoded::Accepted(v) = decode_at(list, i, place) else {
                 rule = 22;
                 break 'operations;
             };
@@ -149,7 +146,7 @@ pub fn first_malformed(address_size: u64, lengths: Lengths, list: &[u64]) -> Mal
 // The varnode at a place of operation i, or the fault that its shape is.
 fn decode_at(list: &[u64], i: usize, place: u8) -> Decoded
     requires { ⌜ (wordsPerOperation * i + wordsPerOperation ≤ length (now list)) × (place ≤ mostInputs) ⌝ }
-    ensures { λ r. ⌜ r ≡ decoded (hasPlace (opcodeAt (now (list .entry)) i) place) (descriptorAt (now (list .entry)) i place) (offsetAt (now (list .entry)) i place) ⌝ }
+    ensures { λ r. ⌜ r ≡ decodedAt (now (list .entry)) i place ⌝ }
 {
     let wanted = has_place(opcode_at(list, i), place);
     decode(
@@ -162,7 +159,7 @@ fn decode_at(list: &[u64], i: usize, place: u8) -> Decoded
 // 25 or 26, the rules on the operation as a whole, or 0.
 fn size_or_target(address_size: u64, list: &[u64], i: usize) -> u64
     requires { ⌜ wordsPerOperation * i + wordsPerOperation ≤ length (now list) ⌝ }
-    ensures { λ r. ⌜ r ≡ cond (breaksSize «address_size» (opcodeAt (now (list .entry)) i) (varnodeAt (now (list .entry)) i 0 .size) (varnodeAt (now (list .entry)) i 1 .size) (varnodeAt (now (list .entry)) i 2 .size)) 25 (cond (breaksTarget (operationCount (now (list .entry))) i (opcodeAt (now (list .entry)) i) (varnodeAt (now (list .entry)) i 1)) 26 0) ⌝ }
+    ensures { λ r. ⌜ r ≡ sizeOrTarget «address_size» (now (list .entry)) i ⌝ }
 {
     let opcode = opcode_at(list, i);
     let output = varnode_at(list, i, 0);
@@ -171,7 +168,7 @@ fn size_or_target(address_size: u64, list: &[u64], i: usize) -> u64
     if breaks_size(address_size, opcode, output.size, input0.size, input1.size) {
         return 25;
     }
-    let count = list.len() / WORDS;
+    let count = list.len() / WORDS_PER_OPERATION;
     if breaks_target(count as u64, i as u64, opcode, input0) {
         return 26;
     }

@@ -15,8 +15,8 @@ returns : tie.Need-returns
 unfolding roomFault
 returns c = (rw (lt-leb 3 _ (c .if1 .taken)), refl)
 
-shown-bytes-requires : tie.Need-shown-bytes-requires
-shown-bytes-requires c κs = search needs
+shown-length-requires : tie.Need-shown-length-requires
+shown-length-requires c κs = search needs
 
 slice-write-place : tie.Need-slice-write-place
 slice-write-place c = search needs
@@ -41,7 +41,7 @@ same-length c = search needs
 
 returns-2 : tie.Need-returns-2
 unfolding roomFault placeWords
-returns-2 c = (rw (le-leb 3 _ (c .before .before .if1 .left)), rw (eq-eqb _ 0 (sym (c .before .shown-bytes .ensures) ∙ c .if2 .taken)))
+returns-2 c = (rw (le-leb 3 _ (c .before .before .if1 .left)), rw (eq-eqb _ 0 (sym (c .before .shown-length .ensures) ∙ c .if2 .taken)))
 
 same-length-2 : tie.Need-same-length-2
 same-length-2 c = search needs
@@ -50,8 +50,8 @@ returns-3 : tie.Need-returns-3
 unfolding roomFault placeWords
 returns-3 c = (
   rw (le-leb 3 _ (c .before .before .if1 .left)),
-  rw (ne-eqb _ 0 (λ z. c .if2 .left (c .before .shown-bytes .ensures ∙ z)))
-      (ap (λ (n : ℕ). sets (c .before .before .before .before .before .before .before .args .place .now) 0 (c .before .before .before .before .before .before .before .args .space ∷ c .before .before .before .before .before .before .before .args .offset ∷ n ∷ [])) (c .before .shown-bytes .ensures)),
+  rw (ne-eqb _ 0 (λ z. c .if2 .left (c .before .shown-length .ensures ∙ z)))
+      (ap (λ (n : ℕ). sets (c .before .before .before .before .before .before .before .args .place .now) 0 (c .before .before .before .before .before .before .before .args .space ∷ c .before .before .before .before .before .before .before .args .offset ∷ n ∷ [])) (c .before .shown-length .ensures)),
 )
 
 pub undrelvoa-show-spec : {M : Type 1} → statement M
@@ -59,7 +59,7 @@ undrelvoa-show-spec =
     tie.close
     (tie.spec
     returns
-    shown-bytes-requires
+    shown-length-requires
     slice-write-place
     slice-write-place-2
     slice-write-place-3

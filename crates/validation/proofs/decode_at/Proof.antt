@@ -5,6 +5,7 @@ use borrow.Author.Needs.{needs}
 use Rattle.validation.proofs.Walk.{same-decoding}
 use Rattle.operation.specs.Layout.{descriptorAt, offsetAt}
 use Rattle.operation.specs.Shapes.{hasPlace}
+use Rattle.operation.specs.Decoding.{decodedAt}
 use Rattle.validation.proofs.decode_at.Statement.{statement}
 use Rattle.validation.proofs.decode_at.Tie as tie
 
@@ -30,9 +31,9 @@ decode-requires : tie.Need-decode-requires
 decode-requires c κs = search needs
 
 returns : tie.Need-returns
-unfolding descriptorAt offsetAt
+unfolding decodedAt descriptorAt offsetAt
 returns c =
-    c .decode .ensures
+    c .decode .ensures .0
     ∙ same-decoding (c .before .before .before .has-place .ensures ∙ ap (λ (n : ℕ). hasPlace n (c .before .before .before .before .before .before .args .place)) (c .before .before .before .before .opcode-at .ensures)) (c .before .before .head-byte .ensures) (c .before .word-at .ensures)
 
 pub decode-at-spec : {M : Type 1} → statement M

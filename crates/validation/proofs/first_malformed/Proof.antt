@@ -7,6 +7,7 @@ use borrow.Author.Needs.{needs}
 use lib.ListN.{length}
 use Rattle.validation.proofs.Walk.{first-start, first-skip, left-at-end, left-at, any-none, any-grows, at-head, at-shape, at-place, at-range, at-last, fault-of, shape-of, varnode-of, present-size, same-place, same-range}
 use Rattle.operation.specs.Layout.{operationCount, opcodeAt, varnodeAt}
+use Rattle.operation.specs.Decoding.{decodedAt}
 use Rattle.operation.specs.Rules.{breaksShapeAt, breaksPlace, breaksRange}
 use Rattle.validation.specs.Verdict.{firstMalformed, anyBelow, lowestRule}
 use Rattle.validation.proofs.first_malformed.Statement.{statement}
@@ -58,6 +59,7 @@ either-requires : tie.Need-either-requires Inv-loop μ-loop Inv-operations μ-op
 either-requires c κs = search needs
 
 breaks-range-requires : tie.Need-breaks-range-requires Inv-loop μ-loop Inv-operations μ-operations
+unfolding decodedAt
 breaks-range-requires c κs = present-size _ _ _ _ (sym (c .before .before .before .before .before .decode-at .ensures) ∙ c .before .before .before .v .given .1)
 
 either-requires-2 : tie.Need-either-requires-2 Inv-loop μ-loop Inv-operations μ-operations
@@ -70,7 +72,7 @@ loop-less : tie.Need-loop-less Inv-loop μ-loop Inv-operations μ-operations
 loop-less c = omega arith
 
 loop-again : tie.Need-loop-again Inv-loop μ-loop Inv-operations μ-operations
-unfolding varnodeAt breaksShapeAt
+unfolding varnodeAt breaksShapeAt decodedAt
 loop-again c =
     let e = sym (c .before .before .before .before .before .before .before .decode-at .ensures) ∙ c .before .before .before .before .before .v .given .1 in
     let v = varnode-of _ _ _ _ e in (
@@ -107,7 +109,7 @@ unfolding operationCount
 returns-2 c = left-at (c .before .before .before .before .before .args .address-size) (c .before .before .before .before .before .args .lengths) (c .before .before .before .before .before .args .list .now) (c .before .before .before .operations .i) _ (c .before .before .before .operations .inv .2) (at-head (c .before .before .before .before .before .args .address-size) (c .before .before .before .before .before .args .lengths) (c .before .before .before .before .before .args .list .now) (c .before .before .before .operations .i) (sym (c .before .breaks-head .ensures) ∙ c .if1 .taken)) (λ z. omega (arith, z)) (omega arith)
 
 returns-3 : tie.Need-returns-3 Inv-loop μ-loop Inv-operations μ-operations
-unfolding operationCount breaksShapeAt
+unfolding operationCount breaksShapeAt decodedAt
 returns-3 c = left-at (c .before .before .before .before .before .before .before .before .before .before .before .args .address-size) (c .before .before .before .before .before .before .before .before .before .before .before .args .lengths) (c .before .before .before .before .before .before .before .before .before .before .before .args .list .now) (c .before .before .before .before .before .before .before .before .before .operations .i) _ (c .before .before .before .before .before .before .before .before .before .operations .inv .2) (at-shape (c .before .before .before .before .before .before .before .before .before .before .before .args .address-size) (c .before .before .before .before .before .before .before .before .before .before .before .args .lengths) (c .before .before .before .before .before .before .before .before .before .before .before .args .list .now) (c .before .before .before .before .before .before .before .before .before .operations .i) (sym (c .before .before .before .before .before .before .before .breaks-head .ensures) ∙ c .before .before .before .before .before .before .if1 .left) (c .before .before .before .before .loop .place) (omega arith) (fault-of _ _ _ (sym (c .before .before .decode-at .ensures) ∙ c .enum-told .given .1))) (λ z. omega (arith, z)) (omega arith)
 
 returns-4 : tie.Need-returns-4 Inv-loop μ-loop Inv-operations μ-operations

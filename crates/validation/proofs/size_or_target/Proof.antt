@@ -3,6 +3,7 @@ use mathlib.Core.Path.{sym, _∙_}
 use borrow.Author.Needs.{needs}
 use Rattle.validation.proofs.Walk.{same-sizes, same-target}
 use Rattle.operation.specs.Layout.{operationCount}
+use Rattle.validation.specs.Verdict.{sizeOrTarget}
 use Rattle.validation.proofs.size_or_target.Statement.{statement}
 use Rattle.validation.proofs.size_or_target.Tie as tie
 
@@ -22,17 +23,18 @@ breaks-size-requires : tie.Need-breaks-size-requires
 breaks-size-requires c κs = search needs
 
 returns : tie.Need-returns
+unfolding sizeOrTarget
 returns c = rw (sym (c .before .breaks-size .ensures ∙ same-sizes (c .before .before .before .before .before .before .before .args .address-size) (c .before .before .before .before .before .opcode-at .ensures) (c .before .before .before .before .varnode-at .ensures) (c .before .before .before .varnode-at2 .ensures) (c .before .before .varnode-at3 .ensures)) ∙ c .if1 .taken)
 
 breaks-target-requires : tie.Need-breaks-target-requires
 breaks-target-requires c κs = search needs
 
 returns-2 : tie.Need-returns-2
-unfolding operationCount
+unfolding sizeOrTarget operationCount
 returns-2 c = rw (sym (c .before .before .before .breaks-size .ensures ∙ same-sizes (c .before .before .before .before .before .before .before .before .before .args .address-size) (c .before .before .before .before .before .before .before .opcode-at .ensures) (c .before .before .before .before .before .before .varnode-at .ensures) (c .before .before .before .before .before .varnode-at2 .ensures) (c .before .before .before .before .varnode-at3 .ensures)) ∙ c .before .before .if1 .left, sym (c .before .breaks-target .ensures ∙ same-target _ _ (c .before .before .before .before .before .before .before .opcode-at .ensures) (c .before .before .before .before .before .varnode-at2 .ensures)) ∙ c .if2 .taken)
 
 returns-3 : tie.Need-returns-3
-unfolding operationCount
+unfolding sizeOrTarget operationCount
 returns-3 c = rw (sym (c .before .before .before .breaks-size .ensures ∙ same-sizes (c .before .before .before .before .before .before .before .before .before .args .address-size) (c .before .before .before .before .before .before .before .opcode-at .ensures) (c .before .before .before .before .before .before .varnode-at .ensures) (c .before .before .before .before .before .varnode-at2 .ensures) (c .before .before .before .before .varnode-at3 .ensures)) ∙ c .before .before .if1 .left, sym (c .before .breaks-target .ensures ∙ same-target _ _ (c .before .before .before .before .before .before .before .opcode-at .ensures) (c .before .before .before .before .before .varnode-at2 .ensures)) ∙ c .if2 .left)
 
 pub size-or-target-spec : {M : Type 1} → statement M

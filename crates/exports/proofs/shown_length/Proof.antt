@@ -1,11 +1,11 @@
--- `exports::shown_bytes` meets its contract. Assumes nothing.
+-- `exports::shown_length` meets its contract. Assumes nothing.
 use mathlib.Core.Path.{ap, _∙_}
 use borrow.Author.Needs.{needs}
 use lib.ListN.{length}
 use Rattle.exports.proofs.Shown.{shown-length}
 use Rattle.interpreter.specs.Show.{View}
-use Rattle.exports.proofs.shown_bytes.Statement.{statement}
-use Rattle.exports.proofs.shown_bytes.Tie as tie
+use Rattle.exports.proofs.shown_length.Statement.{statement}
+use Rattle.exports.proofs.shown_length.Tie as tie
 
 show-requires : tie.Need-show-requires
 show-requires c κs = search needs
@@ -13,5 +13,5 @@ show-requires c κs = search needs
 returns : tie.Need-returns
 returns c = ap (λ (w : View). length (w .bytes)) (c .show .ensures) ∙ shown-length _ _ _ _ _ _
 
-pub shown-bytes-spec : {M : Type 1} → statement M
-shown-bytes-spec = tie.close (tie.spec show-requires returns)
+pub shown-length-spec : {M : Type 1} → statement M
+shown-length-spec = tie.close (tie.spec show-requires returns)
