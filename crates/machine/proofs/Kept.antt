@@ -1,0 +1,193 @@
+-- What every operation keeps: the lengths of memory and labels, that each label is 0 or 1, and the log's room. Assumes nothing.
+use Prim.Native.Nat.{ℕ, zero, suc, _+_, _≤_}
+use native.Mathlib.Omega.{arith}
+use mathlib.Core.Path.{_≡_, refl, _∙_}
+use mathlib.Core.Bool.{Bool, true, false, cond, _&&_}
+use mathlib.Core.List.{List, [], _∷_}
+use borrow.Author.Tests.{eqb-false}
+use lib.ListN.{length, set, replicate, length-append}
+use lib.Seq.{sets, length-sets}
+use lib.Dec.{ltb, leb, eqb}
+use Rattle.integer.specs.Operations.{flag}
+use Rattle.integer.proofs.Booleans.{both}
+use Rattle.operation.specs.declared.layout.Varnode.{Varnode}
+use Rattle.operation.specs.declared.layout.Lengths.{Lengths}
+use Rattle.operation.specs.Layout.{operationCount}
+use Rattle.machine.specs.Memory.{Memory, lengthsOf, spaceOf, withSpace, written}
+use Rattle.machine.specs.Effect.{Operation, Kind, operationAt, sources, target, secret, labelsWritten}
+use Rattle.machine.specs.Run.{Stop, Decision, Position, Ended, Stepped, logging, goTo, access, checked, decided, advanced, ended, carriedOut, performedAs, performed, stepped, continued, run}
+use Rattle.machine.specs.Calls.{allLabels, labelsInRange, starting, unlabelled}
+
+-- ---- writing keeps lengths, and labels of 0 or 1
+
+pub written-lengths : (m : Memory) (v : Varnode) (bs : List ℕ) → lengthsOf (written m v bs) ≡ lengthsOf m
+unfolding written withSpace spaceOf lengthsOf
+written-lengths m v bs = by (eqb (v .space) 2) (eqb (v .space) 3) (eqb (v .space) 4)
+  where
+    by : (p q r : Bool)
+        → lengthsOf
+        (cond p (record { unique = sets (cond p (m .unique) (cond q (m .register) (cond r (m .ram) []))) (v .offset) bs; register = m .register; ram = m .ram })
+        (cond q (record { unique = m .unique; register = sets (cond p (m .unique) (cond q (m .register) (cond r (m .ram) []))) (v .offset) bs; ram = m .ram })
+        (cond r (record { unique = m .unique; register = m .register; ram = sets (cond p (m .unique) (cond q (m .register) (cond r (m .ram) []))) (v .offset) bs }) m)))
+        ≡ lengthsOf m
+    by true q r = rw (length-sets (m .unique) (v .offset) bs)
+    by false true r = rw (length-sets (m .register) (v .offset) bs)
+    by false false true = rw (length-sets (m .ram) (v .offset) bs)
+    by false false false = refl
+
+all-set : (l : List ℕ) (i x : ℕ) → allLabels l ≡ true → leb x 1 ≡ true → allLabels (set l i x) ≡ true
+unfolding allLabels
+all-set [] i x h e = refl
+all-set (y ∷ l) zero x h e = let b = both (leb y 1) (allLabels l) h in rw (e, b .1)
+all-set (y ∷ l) (suc i) x h e = let b = both (leb y 1) (allLabels l) h in rw (b .0, all-set l i x (b .1) e)
+
+all-sets : (l : List ℕ) (i : ℕ) (xs : List ℕ) → allLabels l ≡ true → allLabels xs ≡ true → allLabels (sets l i xs) ≡ true
+unfolding allLabels
+all-sets l i [] h e = h
+all-sets l i (x ∷ xs) h e = let b = both (leb x 1) (allLabels xs) e in all-sets (set l i x) (suc i) xs (all-set l i x h (b .0)) (b .1)
+
+flag-label : (t : Bool) → leb (flag t) 1 ≡ true
+unfolding flag
+flag-label true = refl
+flag-label false = refl
+
+all-flags : (n : ℕ) (t : Bool) → allLabels (replicate n (flag t)) ≡ true
+unfolding allLabels
+all-flags zero t = refl
+all-flags (suc n) t = rw (flag-label t, all-flags n t)
+
+written-labels : (labels : Memory) (v : Varnode) (xs : List ℕ) → labelsInRange labels ≡ true → allLabels xs ≡ true → labelsInRange (written labels v xs) ≡ true
+unfolding written withSpace spaceOf labelsInRange
+written-labels m v xs h e = by (eqb (v .space) 2) (eqb (v .space) 3) (eqb (v .space) 4)
+  where
+    b : (allLabels (m .unique) && allLabels (m .register) ≡ true) × (allLabels (m .ram) ≡ true)
+    b = both (allLabels (m .unique) && allLabels (m .register)) (allLabels (m .ram)) h
+
+    a : (allLabels (m .unique) ≡ true) × (allLabels (m .register) ≡ true)
+    a = both (allLabels (m .unique)) (allLabels (m .register)) (b .0)
+
+    by : (p q r : Bool)
+        → labelsInRange
+        (cond p (record { unique = sets (cond p (m .unique) (cond q (m .register) (cond r (m .ram) []))) (v .offset) xs; register = m .register; ram = m .ram })
+        (cond q (record { unique = m .unique; register = sets (cond p (m .unique) (cond q (m .register) (cond r (m .ram) []))) (v .offset) xs; ram = m .ram })
+        (cond r (record { unique = m .unique; register = m .register; ram = sets (cond p (m .unique) (cond q (m .register) (cond r (m .ram) []))) (v .offset) xs }) m)))
+        ≡ true
+    by true q r = rw (all-sets (m .unique) (v .offset) xs (a .0) e, a .1, b .1)
+    by false true r = rw (all-sets (m .register) (v .offset) xs (a .1) e, a .0, b .1)
+    by false false true = rw (all-sets (m .ram) (v .offset) xs (b .1) e, a .0, a .1)
+    by false false false = h
+
+-- ---- an operation writes no more log words than there is room for
+
+data Fits (room : ℕ) : Decision → Type 0 where
+  stops : {e : Stop} → Fits room (Decision.stop e)
+  nexts : {words : List ℕ} {i : ℕ} → length words ≤ room → Fits room (Decision.next words i)
+  exits : {words : List ℕ} {d : ℕ} → length words ≤ room → Fits room (Decision.exit words d)
+
+fits-cond : (room : ℕ) (c : Bool) {a b : Decision} → Fits room a → Fits room b → Fits room (cond c a b)
+fits-cond room true h q = h
+fits-cond room false h q = q
+
+logging-fits : (room word : ℕ) (d : List ℕ → Decision) → ((words : List ℕ) → length words ≤ room → Fits room (d words)) → Fits room (logging room word d)
+unfolding logging
+logging-fits room word d h = by (eqb room 0) refl
+  where
+    by : (t : Bool) → eqb room 0 ≡ t → Fits room (cond t (Decision.stop Stop.logFull) (d (word ∷ [])))
+    by true t = stops
+    by false t = h (word ∷ []) (let n : room ≡ 0 → ⊥ = eqb-false room 0 t in omega arith)
+
+goto-fits : (room i : ℕ) (v : Varnode) (words : List ℕ) → length words ≤ room → Fits room (goTo i v words)
+unfolding goTo
+goto-fits room i v words h = fits-cond room (eqb (v .space) 1) (nexts h) (exits h)
+
+access-fits : (i extent room pointer size : ℕ) → Fits room (access i extent room pointer size)
+unfolding access
+access-fits i extent room pointer size = fits-cond room (leb (pointer + size) extent) (logging-fits room _ _ (λ words h. nexts h)) stops
+
+checked-fits : (k : Kind) (op : Operation) (i extent room x : ℕ) → Fits room (checked k op i extent room x)
+unfolding checked
+checked-fits Kind.copy op i extent room x = nexts {words = []} (omega arith)
+checked-fits Kind.load op i extent room x = access-fits i extent room x _
+checked-fits Kind.store op i extent room x = access-fits i extent room x _
+checked-fits Kind.branch op i extent room x = goto-fits room i (op .input0) [] (omega arith)
+checked-fits Kind.cbranch op i extent room x =
+    fits-cond room (eqb x 0) (logging-fits room _ _ (λ words h. nexts h)) (logging-fits room _ _ (goto-fits room i (op .input0)))
+checked-fits Kind.jump op i extent room x = exits {words = []} (omega arith)
+checked-fits Kind.piece op i extent room x = nexts {words = []} (omega arith)
+checked-fits Kind.subpiece op i extent room x = nexts {words = []} (omega arith)
+checked-fits Kind.divide op i extent room x = fits-cond room (eqb x 0) stops (nexts {words = []} (omega arith))
+checked-fits Kind.compute op i extent room x = nexts {words = []} (omega arith)
+
+decided-fits : (t : Bool) (k : Kind) (op : Operation) (i extent room x : ℕ) → Fits room (decided t k op i extent room x)
+unfolding decided
+decided-fits t k op i extent room x = fits-cond room t stops (checked-fits k op i extent room x)
+
+-- ---- the run
+
+-- A log of `words` words, spaces and labels of the same lengths as at the start, and every label 0 or 1.
+pub record Kept (words : ℕ) (spaces marks : Lengths) (at : Position) (labels m : Memory) : Type 0 where
+  pub log : at .room + length (at .log) ≡ words
+  pub memory : lengthsOf m ≡ spaces
+  pub lengths : lengthsOf labels ≡ marks
+  pub values : labelsInRange labels ≡ true
+
+module _ (words : ℕ) (spaces marks : Lengths) (big : Bool) (list : List ℕ) where
+  data KeptStep : Stepped → Type 0 where
+    halts : {r : Ended} → Kept words spaces marks (r .position) (r .labels) (r .memory) → KeptStep (Stepped.halted r)
+    goes : {at : Position} {labels m : Memory} → Kept words spaces marks at labels m → KeptStep (Stepped.going at labels m)
+
+  kept-cond : (c : Bool) {a b : Stepped} → KeptStep a → KeptStep b → KeptStep (cond c a b)
+  kept-cond true h q = h
+  kept-cond false h q = q
+
+  advanced-log : (at : Position) (i : ℕ) (vs : List ℕ) → length vs ≤ at .room → at .room + length (at .log) ≡ words
+      → advanced at i vs .room + length (advanced at i vs .log) ≡ words
+  unfolding advanced
+  advanced-log at i vs h e = rw (length-append (at .log) vs) (omega (arith, h, e))
+
+  carried-kept : (k : Kind) (op : Operation) (at : Position) (labels m : Memory) (x : ℕ) {d : Decision} → Fits (at .room) d
+      → Kept words spaces marks at labels m → KeptStep (carriedOut big k op at labels m x d)
+  unfolding carriedOut ended labelsWritten
+  carried-kept k op at labels m x stops h = halts h
+  carried-kept k op at labels m x (exits l) h =
+      halts (record { log = advanced-log at _ _ l (h .log); memory = h .memory; lengths = h .lengths; values = h .values })
+  carried-kept k op at labels m x (nexts l) h =
+      goes (record {
+        log = advanced-log at _ _ l (h .log);
+        memory = written-lengths m (target k op x) _ ∙ h .memory;
+        lengths = written-lengths labels (target k op x) _ ∙ h .lengths;
+        values = written-labels labels (target k op x) _ (h .values) (all-flags (target k op x .size) (secret labels (sources k op x)));
+      })
+
+  stepped-kept : (at : Position) (labels m : Memory) → Kept words spaces marks at labels m → KeptStep (stepped big list at labels m)
+  unfolding stepped performed performedAs ended
+  stepped-kept at labels m h =
+      kept-cond (ltb (at .index) (operationCount list))
+      (carried-kept _ (operationAt list (at .index)) at labels m _ (decided-fits _ _ _ _ _ _ _) h) (halts h)
+
+  continued-kept : (f : Position → Memory → Memory → Ended)
+      → ((at : Position) (labels m : Memory) → Kept words spaces marks at labels m
+      → Kept words spaces marks (f at labels m .position) (f at labels m .labels) (f at labels m .memory))
+      → {a : Stepped} → KeptStep a → Kept words spaces marks (continued f a .position) (continued f a .labels) (continued f a .memory)
+  unfolding continued
+  continued-kept f q (halts h) = h
+  continued-kept f q (goes {at} {labels} {m} h) = q at labels m h
+
+  pub run-kept : (b : ℕ) (at : Position) (labels m : Memory) → Kept words spaces marks at labels m
+      → Kept words spaces marks (run big list b at labels m .position) (run big list b at labels m .labels) (run big list b at labels m .memory)
+  unfolding run ended
+  run-kept zero at labels m h = h
+  run-kept (suc b) at labels m h = continued-kept _ (λ at′ l m′ h′. run-kept b at′ l m′ h′) (stepped-kept at labels m h)
+
+-- a run keeps the lengths that it began with, and its labels stay labels
+pub started-kept : (big : Bool) (list : List ℕ) (start budget : ℕ) (log : List ℕ) (labels m : Memory) → labelsInRange labels ≡ true
+    → (let r = run big list budget (starting start (length log)) labels m in
+    Kept (length log) (lengthsOf m) (lengthsOf labels) (r .position) (r .labels) (r .memory))
+unfolding starting
+started-kept big list start budget log labels m h =
+    run-kept (length log) (lengthsOf m) (lengthsOf labels) big list budget (starting start (length log)) labels m
+    (record { log = omega arith; memory = refl; lengths = refl; values = h })
+
+pub unlabelled-in-range : labelsInRange unlabelled ≡ true
+unfolding labelsInRange allLabels unlabelled
+unlabelled-in-range = refl

@@ -1,0 +1,11 @@
+pub mod Refusals
+pub mod Pointwise
+pub mod Secrecy
+pub mod Plain
+pub mod Noninterference
+pub mod Budget
+pub mod Kept
+pub mod Resume
+pub mod Limits
+pub mod Marked
+pub mod Moves

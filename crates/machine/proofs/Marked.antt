@@ -1,0 +1,44 @@
+-- The marked results, by computation. Assumes nothing.
+use mathlib.Core.Path.{refl}
+use mathlib.Core.Bool.{xor}
+use Rattle.word.specs.Sum.{sum, tabulate, digit}
+use Rattle.word.specs.Word.{part, significance, valueOf, bytesOf}
+use Rattle.integer.specs.Integers.{signed, wrap, negative, overflows, withSign, quotient, remainder}
+use Rattle.integer.specs.Operations.{flag, piece, subpiece, popcount, intAdd, intSub, intCarry, intScarry, intSborrow, intLeft, intSright, intSdiv, intSrem}
+use Rattle.arithmetic.specs.Operands.{among, unary, divides, sizesAgree}
+use Rattle.arithmetic.specs.Result.{lookup, result}
+use Rattle.operation.specs.Layout.{operationCount, wordAt, headByte, opcodeAt, descriptorAt, offsetAt, describedBy, varnodeAt}
+use Rattle.operation.specs.Shapes.{shapes, rowOf, outputs, inputs, hasPlace}
+use Rattle.operation.specs.Rules.{breaksHead, describesVarnode, breaksShape, breaksShapeAt, accesses, branches, jumps, namesSpace, isDestination, breaksPlace, lengthOf, beyond, breaksRange, breaksSize, relativeTarget, targetOutside, breaksTarget}
+use Rattle.validation.specs.Verdict.{settingsInRange, lengthsInRange, anyBelow, anyPlace, sizeOrTarget, lowestRule, firstMalformed, nothingRan, malformed}
+use Rattle.machine.specs.Memory.{lengthsOf, spaceOf, withSpace, bytesAt, written, valueAt, ordered, digitsAt}
+use Rattle.machine.specs.Effect.{operationAt, absent, kindOf, guarded, pointed, sources, target, moves, dropped, digitsOf, valuesOf, computed, bytesWritten, anySecret, secret, labelsWritten}
+use Rattle.machine.specs.Run.{endingOf, indexOf, goTo, checked, decided, advanced, ended, guardedValue, carriedOut, performedAs, performed, stepped, continued, run}
+use Rattle.machine.specs.Calls.{refusal, logAfter, outcomeOf, starting, called, unlabelled, plainRun}
+use Rattle.machine.specs.Marked.{Marked}
+
+pub marked : Marked
+unfolding xor sum tabulate digit part significance valueOf bytesOf signed wrap negative overflows withSign quotient remainder flag piece subpiece popcount intAdd intSub intCarry intScarry intSborrow intLeft intSright intSdiv intSrem among unary divides sizesAgree lookup result operationCount wordAt headByte opcodeAt descriptorAt offsetAt describedBy varnodeAt shapes rowOf outputs inputs hasPlace breaksHead describesVarnode breaksShape breaksShapeAt accesses branches jumps namesSpace isDestination breaksPlace lengthOf beyond breaksRange breaksSize relativeTarget targetOutside breaksTarget settingsInRange lengthsInRange anyBelow anyPlace sizeOrTarget lowestRule firstMalformed nothingRan malformed lengthsOf spaceOf withSpace bytesAt written valueAt ordered digitsAt operationAt absent kindOf guarded pointed sources target moves dropped digitsOf valuesOf computed bytesWritten anySecret secret labelsWritten endingOf indexOf goTo checked decided advanced ended guardedValue carriedOut performedAs performed stepped continued run refusal logAfter outcomeOf starting called unlabelled plainRun
+marked = record {
+  add-wraps = (refl, refl);
+  add-carries = (refl, refl);
+  add-has-no-signed-carry = (refl, refl);
+  add-to-the-sign = (refl, refl);
+  signed-carry = (refl, refl);
+  sub-from-the-sign = (refl, refl);
+  signed-borrow = (refl, refl);
+  signed-quotient = (refl, refl);
+  signed-remainder = (refl, refl);
+  least-quotient = (refl, refl);
+  least-remainder = (refl, refl);
+  left-by-31 = (refl, refl);
+  left-by-32 = (refl, refl);
+  signed-right-by-14 = (refl, refl);
+  signed-right-by-16 = (refl, refl);
+  subpiece-drops-1 = (refl, refl);
+  subpiece-drops-4 = (refl, refl);
+  piece = (refl, refl);
+  popcount = (refl, refl);
+  branch = refl;
+  copy-overlapping = (refl, refl);
+}

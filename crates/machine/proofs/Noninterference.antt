@@ -1,0 +1,126 @@
+-- Demand 3 as one claim. Assumes nothing.
+use Prim.Native.Nat.{ℕ}
+use mathlib.Core.Path.{_≡_, refl, sym, ap, _∙_}
+use mathlib.Core.Bool.{Bool, true, false, cond, _&&_}
+use mathlib.Core.List.{List}
+use borrow.Author.Tests.{eqb-true, eqb-false}
+use lib.ListN.{length, take, drop}
+use lib.Seq.{take-append-seam}
+use lib.Dec.{eqb}
+use Rattle.operation.specs.declared.layout.Settings.{Settings}
+use Rattle.operation.specs.declared.layout.Lengths.{Lengths}
+use Rattle.operation.specs.declared.report.Report.{Report}
+use Rattle.integer.proofs.Booleans.{both}
+use Rattle.machine.specs.Memory.{Memory, lengthsOf, spaceOf}
+use Rattle.machine.specs.Run.{Position, Ended, run}
+use Rattle.machine.specs.Calls.{Outcome, sameLengths, labelsInRange, refusal, logAfter, outcomeOf, starting, called, labelledRun, unlabelled, plainRun}
+use Rattle.machine.specs.Noninterference.{LowEquivalent, Indistinguishable, Labelled, PlainAlike, Noninterference}
+use Rattle.machine.proofs.Pointwise.{Spaces, each-from, each-at, spaces-space, spaces-lengths}
+use Rattle.machine.proofs.Refusals.{refusal-refuses, nothing-ran, unfitting}
+use Rattle.machine.proofs.Secrecy.{Public, SameView, run-view}
+use Rattle.machine.proofs.Plain.{SameRun, run-same}
+
+-- ---- agreement at each place, from one telling to the other
+
+view-of : {labels m n : Memory} → Spaces Public labels m n → LowEquivalent labels m n
+view-of r = record { lengths = spaces-lengths r; bytes = λ space i k. each-at (λ e. refl) (spaces-space r space) i }
+
+same-lengths : (x y : Lengths) → sameLengths x y ≡ true → (x .unique ≡ y .unique) × (x .register ≡ y .register) × (x .ram ≡ y .ram)
+unfolding sameLengths
+same-lengths x y t =
+    let e = both (eqb (x .unique) (y .unique) && eqb (x .register) (y .register)) (eqb (x .ram) (y .ram)) t in
+    let f = both (eqb (x .unique) (y .unique)) (eqb (x .register) (y .register)) (e .0) in
+    (eqb-true (x .unique) (y .unique) (f .0), eqb-true (x .register) (y .register) (f .1), eqb-true (x .ram) (y .ram) (e .1))
+
+spaces-from : {labels m n : Memory} → sameLengths (lengthsOf labels) (lengthsOf m) ≡ true → LowEquivalent labels m n → Spaces Public labels m n
+unfolding lengthsOf spaceOf
+spaces-from {labels} {m} {n} t l =
+    let e = same-lengths (lengthsOf labels) (lengthsOf m) t in
+    record {
+      unique = each-from (labels .unique) (m .unique) (n .unique) (e .0) (ap (λ (x : Lengths). x .unique) (l .lengths)) (l .bytes 2);
+      register = each-from (labels .register) (m .register) (n .register) (e .1) (ap (λ (x : Lengths). x .register) (l .lengths)) (l .bytes 3);
+      ram = each-from (labels .ram) (m .ram) (n .ram) (e .2) (ap (λ (x : Lengths). x .ram) (l .lengths)) (l .bytes 4);
+    }
+
+-- ---- the calls
+
+logged-words : (words log : List ℕ) → take (length words) (logAfter words log) ≡ words
+unfolding logAfter
+logged-words words log = take-append-seam words (drop (length words) log)
+
+outcome-view : (log log′ : List ℕ) {r q : Ended} → SameView r q → Indistinguishable (outcomeOf log r) (outcomeOf log′ q)
+unfolding outcomeOf
+outcome-view log log′ {r} {q} v = record {
+  report = rw (v .ending, v .value, v .position);
+  log = logged-words (r .position .log) log ∙ ap (λ (at : Position). at .log) (v .position) ∙ sym (logged-words (q .position .log) log′);
+  labels = v .labels;
+  memory = view-of (v .memory);
+}
+
+module _ (settings : Settings) (list : List ℕ) (start budget : ℕ) where
+  called-view : (log log′ : List ℕ) → length log ≡ length log′ → (labels m n : Memory) (refused : Report) → refused .logged ≡ 0
+      → LowEquivalent labels m n → (eqb (refused .ending) 0 ≡ true → Spaces Public labels m n)
+      → Indistinguishable (called settings list start budget log labels m refused) (called settings list start budget log′ labels n refused)
+  unfolding called
+  called-view log log′ e labels m n refused none l r = by (eqb (refused .ending) 0) r
+    where
+      by : (t : Bool) → (t ≡ true → Spaces Public labels m n)
+          → Indistinguishable
+          (cond t (outcomeOf log (run (eqb (settings .order) 1) list budget (starting start (length log)) labels m)) (record { report = refused; memory = m; labels = labels; log = log }))
+          (cond t (outcomeOf log′ (run (eqb (settings .order) 1) list budget (starting start (length log′)) labels n)) (record { report = refused; memory = n; labels = labels; log = log′ }))
+      by true k = rw e (outcome-view log log′ (run-view (eqb (settings .order) 1) list budget (starting start (length log′)) labels m n (k refl)))
+      by false k = record { report = refl; log = rw none; labels = refl; memory = l }
+
+  labelled-view : (log log′ : List ℕ) → length log ≡ length log′ → (labels m n : Memory) → LowEquivalent labels m n
+      → Indistinguishable (labelledRun settings list start budget log labels m) (labelledRun settings list start budget log′ labels n)
+  unfolding labelledRun
+  labelled-view log log′ e labels m n l =
+      rw (← (l .lengths))
+      (called-view log log′ e labels m n _ (nothing-ran (refusal-refuses settings (lengthsOf m) list start _ _) .1) l
+      (fits (sameLengths (lengthsOf labels) (lengthsOf m)) refl))
+    where
+      fits : (t : Bool) → sameLengths (lengthsOf labels) (lengthsOf m) ≡ t
+          → eqb (refusal settings (lengthsOf m) list start t (labelsInRange labels) .ending) 0 ≡ true → Spaces Public labels m n
+      fits true s z = spaces-from s l
+      fits false s z =
+          let x : ℕ = refusal settings (lengthsOf m) list start false (labelsInRange labels) .ending in
+          absurd (eqb-false x 0 (unfitting settings (lengthsOf m) list start (labelsInRange labels)) (eqb-true x 0 z))
+
+-- ---- the plain run
+
+outcome-same : (log : List ℕ) {r q : Ended} → SameRun r q → PlainAlike (outcomeOf log q) (outcomeOf log r)
+unfolding outcomeOf
+outcome-same log {r} {q} v = record {
+  report = rw (v .ending, v .value, v .position);
+  log = rw (v .position);
+  memory = v .memory;
+}
+
+module _ (settings : Settings) (list : List ℕ) (start budget : ℕ) where
+  called-same : (log : List ℕ) (labels m : Memory) (refused : Report) → (called settings list start budget log labels m refused .report .ending ≡ 31 → ⊥)
+      → PlainAlike (called settings list start budget log labels m refused) (called settings list start budget log unlabelled m refused)
+  unfolding called outcomeOf
+  called-same log labels m refused = by (eqb (refused .ending) 0)
+    where
+      lent : Memory → Outcome
+      lent l = record { report = refused; memory = m; labels = l; log = log }
+
+      runs : Memory → Ended
+      runs l = run (eqb (settings .order) 1) list budget (starting start (length log)) l m
+
+      by : (t : Bool) → (cond t (outcomeOf log (runs labels)) (lent labels) .report .ending ≡ 31 → ⊥)
+          → PlainAlike (cond t (outcomeOf log (runs labels)) (lent labels)) (cond t (outcomeOf log (runs unlabelled)) (lent unlabelled))
+      by true ne = outcome-same log (run-same (eqb (settings .order) 1) list budget (starting start (length log)) labels m ne)
+      by false ne = record { report = refl; log = refl; memory = refl }
+
+  plain-same : (log : List ℕ) (labels m : Memory) → Labelled labels m → (labelledRun settings list start budget log labels m .report .ending ≡ 31 → ⊥)
+      → PlainAlike (labelledRun settings list start budget log labels m) (plainRun settings list start budget log m)
+  unfolding labelledRun plainRun
+  plain-same log labels m l = rw (l .lengths, l .values) (called-same log labels m (refusal settings (lengthsOf m) list start true true))
+
+pub noninterference : Noninterference
+noninterference settings list start budget log log′ e labels first second l = record {
+  runs = labelled-view settings list start budget log log′ e labels first second l;
+  firstPlain = plain-same settings list start budget log labels first;
+  secondPlain = plain-same settings list start budget log′ labels second;
+}

@@ -1,0 +1,169 @@
+-- What each operation reads, writes and must find public.
+use Prim.Native.Nat.{ℕ}
+use mathlib.Core.Bool.{Bool, true, false, cond, _||_, not}
+use mathlib.Core.List.{List, [], _∷_, _++_}
+use lib.Dec.{eqb}
+use lib.ListN.{getD, replicate}
+use Rattle.word.specs.Word.{part, bytesOf}
+use Rattle.integer.specs.Operations.{flag}
+use Rattle.arithmetic.specs.Operands.{divides}
+use Rattle.arithmetic.specs.Result.{result}
+use Rattle.operation.specs.declared.layout.Varnode.{Varnode}
+use Rattle.operation.specs.Layout.{opcodeAt, varnodeAt}
+use Rattle.operation.specs.Rules.{branches, jumps}
+use Rattle.machine.specs.Memory.{Memory, bytesAt, valueAt, ordered, digitsAt}
+
+-- ---- operations
+
+pub record Operation : Type 0 where
+  pub opcode : ℕ
+  pub output : Varnode
+  pub input0 : Varnode
+  pub input1 : Varnode
+  pub input2 : Varnode
+
+unfoldable pub operationAt : List ℕ → (i : ℕ) → Operation
+operationAt list i =
+    record {
+      opcode = opcodeAt list i;
+      output = varnodeAt list i 0;
+      input0 = varnodeAt list i 1;
+      input1 = varnodeAt list i 2;
+      input2 = varnodeAt list i 3;
+    }
+
+-- No varnode: nothing is read from it, and nothing is written to it.
+unfoldable pub absent : Varnode
+absent = record { space = 0; offset = 0; size = 0 }
+
+-- Operations by what they do. `copy` is COPY and INT_ZEXT, `branch` BRANCH and CALL, `jump` BRANCHIND, CALLIND and RETURN, `divide`
+-- the divisions and remainders, `compute` all others.
+pub data Kind : Type 0 where
+  copy load store branch cbranch jump piece subpiece divide compute : Kind
+
+unfoldable pub kindOf : (opcode : ℕ) → Kind
+kindOf opcode =
+    cond (eqb opcode 1) copy
+    (cond (eqb opcode 2) load
+    (cond (eqb opcode 3) store
+    (cond (eqb opcode 5) cbranch
+    (cond (branches opcode) branch
+    (cond (jumps opcode) jump
+    (cond (eqb opcode 10) piece
+    (cond (eqb opcode 11) subpiece
+    (cond (eqb opcode 19) copy
+    (cond (divides opcode) divide compute)))))))))
+
+-- ---- what must be public: 'LEAK: a secret byte in ..'
+
+unfoldable pub guarded : Kind → Operation → List Varnode
+-- the pointer of LOAD or STORE,
+guarded load op = op .input1 ∷ []
+guarded store op = op .input1 ∷ []
+-- the condition,
+guarded cbranch op = op .input1 ∷ []
+-- input0 of BRANCHIND, CALLIND or RETURN,
+guarded jump op = op .input0 ∷ []
+-- or input1 of INT_DIV, INT_REM, INT_SDIV, INT_SREM.
+guarded divide op = op .input1 ∷ []
+guarded copy op = []
+guarded branch op = []
+guarded piece op = []
+guarded subpiece op = []
+guarded compute op = []
+
+-- ---- what is read for the value written, and where that value goes; `pointer` is the value of LOAD's or STORE's input1
+
+-- The bytes that LOAD loads or STORE stores, in the space that input0 names.
+unfoldable pub pointed : Operation → (pointer size : ℕ) → Varnode
+pointed op pointer size = record { space = op .input0 .offset; offset = pointer; size = size }
+
+-- Least significant first: input0 of PIECE is its most significant part.
+unfoldable pub sources : Kind → Operation → (pointer : ℕ) → List Varnode
+sources copy op pointer = op .input0 ∷ []
+sources load op pointer = pointed op pointer (op .output .size) ∷ []
+sources store op pointer = op .input2 ∷ []
+sources branch op pointer = []
+sources cbranch op pointer = []
+sources jump op pointer = []
+sources piece op pointer = op .input1 ∷ op .input0 ∷ []
+sources subpiece op pointer = op .input0 ∷ []
+sources divide op pointer = op .input0 ∷ op .input1 ∷ []
+sources compute op pointer = op .input0 ∷ op .input1 ∷ []
+
+unfoldable pub target : Kind → Operation → (pointer : ℕ) → Varnode
+target copy op pointer = op .output
+target load op pointer = op .output
+target store op pointer = pointed op pointer (op .input2 .size)
+target branch op pointer = absent
+target cbranch op pointer = absent
+target jump op pointer = absent
+target piece op pointer = op .output
+target subpiece op pointer = op .output
+target divide op pointer = op .output
+target compute op pointer = op .output
+
+-- ---- the bytes written
+
+-- Whether the bytes written are bytes read, moved by significance; else they are those of a computed number.
+unfoldable pub moves : Kind → Bool
+moves copy = true
+moves load = true
+moves store = true
+moves branch = false
+moves cbranch = false
+moves jump = false
+moves piece = true
+moves subpiece = true
+moves divide = false
+moves compute = false
+
+-- SUBPIECE drops input1 low bytes.
+unfoldable pub dropped : Kind → Operation → ℕ
+dropped subpiece op = op .input1 .offset
+dropped copy op = 0
+dropped load op = 0
+dropped store op = 0
+dropped branch op = 0
+dropped cbranch op = 0
+dropped jump op = 0
+dropped piece op = 0
+dropped divide op = 0
+dropped compute op = 0
+
+unfoldable pub digitsOf : (big : Bool) → Memory → List Varnode → List ℕ
+digitsOf big m [] = []
+digitsOf big m (v ∷ vs) = digitsAt big m v ++ digitsOf big m vs
+
+unfoldable pub valuesOf : (big : Bool) → Memory → List Varnode → List ℕ
+valuesOf big m [] = []
+valuesOf big m (v ∷ vs) = valueAt big m v ∷ valuesOf big m vs
+
+-- The number that an operation computes from the values of its inputs.
+unfoldable pub computed : Operation → (values : List ℕ) → ℕ
+computed op values =
+    result (op .opcode) (op .output .size) (op .input0 .size) (op .input1 .size) (getD values 0 0) (getD values 1 0)
+
+-- The bytes that an operation writes to its target of `size` bytes, in memory order; missing high bytes are 0.
+unfoldable pub bytesWritten : (big : Bool) → Kind → Operation → (size : ℕ) → List Varnode → Memory → List ℕ
+bytesWritten big k op size vs m =
+    cond (moves k)
+    (ordered big (part (digitsOf big m vs) (dropped k op) size))
+    (bytesOf big size (computed op (valuesOf big m vs)))
+
+-- ---- the labels written
+
+-- A byte with another label than 0 is secret.
+unfoldable pub anySecret : List ℕ → Bool
+anySecret [] = false
+anySecret (l ∷ ls) = not (eqb l 0) || anySecret ls
+
+-- Any byte of some varnodes is secret. Constants are public: they have no bytes in a space.
+unfoldable pub secret : (labels : Memory) → List Varnode → Bool
+secret labels [] = false
+secret labels (v ∷ vs) = anySecret (bytesAt labels v) || secret labels vs
+
+-- All bytes of an output become secret if any byte of any varnode read, or any byte loaded, is secret; else public. STORE does this to
+-- its target bytes by input2. What must be public is public here, so it need not be looked at again.
+unfoldable pub labelsWritten : (size : ℕ) → List Varnode → (labels : Memory) → List ℕ
+labelsWritten size vs labels = replicate size (flag (secret labels vs))

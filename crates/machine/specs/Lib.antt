@@ -1,0 +1,9 @@
+pub mod Memory
+pub mod Effect
+pub mod Run
+pub mod Calls
+pub mod Noninterference
+pub mod Resume
+pub mod Limits
+pub mod Marked
+pub mod Moves

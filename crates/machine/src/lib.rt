@@ -1,0 +1,1 @@
+// The machine has definitions and theorems only: see specs/ and proofs/.
