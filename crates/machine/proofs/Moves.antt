@@ -16,10 +16,12 @@ use Rattle.word.proofs.Sums.{tabulate-is, tabulate-past}
 use Rattle.word.proofs.Powers.{pow-bits, size-mono}
 use Rattle.word.proofs.Laws.{significance-lt, significance-twice, part-length, part-bytes, bytes-length, bytes-at, bytes-bytes, read-written, written-read}
 use Rattle.integer.specs.Operations.{piece, subpiece, intZext}
+use Rattle.arithmetic.specs.Operands.{among, divides}
+use Rattle.operation.specs.Rules.{branches, jumps}
 use Rattle.arithmetic.specs.Result.{lookup, result}
 use Rattle.operation.specs.declared.layout.Varnode.{Varnode}
 use Rattle.machine.specs.Memory.{Memory, spaceOf, bytesAt, valueAt, ordered, digitsAt}
-use Rattle.machine.specs.Effect.{sources, dropped, moves, digitsOf, bytesWritten}
+use Rattle.machine.specs.Effect.{kindOf, sources, dropped, moves, digitsOf, bytesWritten}
 use Rattle.machine.specs.Moves.{OfBytes, Moves}
 
 -- ordering the bytes of a number puts them in the other order
@@ -138,11 +140,11 @@ two-sources big m u v n b hu hv =
     ∙ ordered-out big n (valueAt big m u * 256 ^ v .size + valueAt big m v)
 
 pub moves-are : Moves
-unfolding bytesWritten sources dropped moves result lookup intZext subpiece piece
+unfolding bytesWritten kindOf sources dropped moves among branches jumps divides result lookup intZext subpiece piece
 moves-are = record {
-  copy = λ big op m size pointer b h.
-      one-source big m (op .input0) 0 size b h ∙ ap (bytesOf big size) (div-one (valueAt big m (op .input0)));
-  subpiece = λ big op m size pointer b h.
-      one-source big m (op .input0) (op .input1 .offset) size b h ∙ bytes-mod big size (valueAt big m (op .input0) / 256 ^ op .input1 .offset);
-  piece = λ big op m size pointer b h0 h1. two-sources big m (op .input0) (op .input1) size b h0 h1;
+  zext = λ big op m size pointer e b h.
+      rw e (one-source big m (op .input0) 0 size b h ∙ ap (bytesOf big size) (div-one (valueAt big m (op .input0))));
+  subpiece = λ big op m size pointer e b h.
+      rw e (one-source big m (op .input0) (op .input1 .offset) size b h ∙ bytes-mod big size (valueAt big m (op .input0) / 256 ^ op .input1 .offset));
+  piece = λ big op m size pointer e b h0 h1. rw e (two-sources big m (op .input0) (op .input1) size b h0 h1);
 }

@@ -62,10 +62,10 @@ length-ordered : (big : Bool) (bs : List ℕ) → length (ordered big bs) ≡ le
 unfolding ordered
 length-ordered big bs = tabulate-length (length bs) _
 
-length-written : (big : Bool) (k : Kind) (op : Operation) (n : ℕ) (vs : List Varnode) (m : Memory) → length (bytesWritten big k op n vs m) ≡ n
+length-written : (big : Bool) (op : Operation) (n : ℕ) (vs : List Varnode) (m : Memory) → length (bytesWritten big op n vs m) ≡ n
 unfolding bytesWritten
-length-written big k op n vs m =
-    length-cond (moves k) _ _ (length-ordered big _ ∙ part-length (digitsOf big m vs) (dropped k op) n) (bytes-length big n (computed op (valuesOf big m vs)))
+length-written big op n vs m =
+    length-cond (moves op) _ _ (length-ordered big _ ∙ part-length (digitsOf big m vs) (dropped op) n) (bytes-length big n (computed op (valuesOf big m vs)))
 
 module _ {labels m n : Memory} (r : Spaces Public labels m n) where
   public-bytes : (v : Varnode) → anySecret (bytesAt labels v) ≡ false → bytesAt m v ≡ bytesAt n v
@@ -87,18 +87,18 @@ module _ {labels m n : Memory} (r : Spaces Public labels m n) where
 
   -- ---- one operation
 
-  public-written : (big : Bool) (k : Kind) (op : Operation) (size : ℕ) (vs : List Varnode) → secret labels vs ≡ false
-      → bytesWritten big k op size vs m ≡ bytesWritten big k op size vs n
+  public-written : (big : Bool) (op : Operation) (size : ℕ) (vs : List Varnode) → secret labels vs ≡ false
+      → bytesWritten big op size vs m ≡ bytesWritten big op size vs n
   unfolding bytesWritten
-  public-written big k op size vs h = rw (public-values big vs h, public-digits big vs h)
+  public-written big op size vs h = rw (public-values big vs h, public-digits big vs h)
 
-  written-view : (big : Bool) (k : Kind) (op : Operation) (size : ℕ) (vs : List Varnode)
-      → Each Public (labelsWritten size vs labels) (bytesWritten big k op size vs m) (bytesWritten big k op size vs n)
+  written-view : (big : Bool) (op : Operation) (size : ℕ) (vs : List Varnode)
+      → Each Public (labelsWritten size vs labels) (bytesWritten big op size vs m) (bytesWritten big op size vs n)
   unfolding labelsWritten
-  written-view big k op size vs =
-      let l = length-written big k op size vs m in
-      let w = whole (secret labels vs) (bytesWritten big k op size vs m) (bytesWritten big k op size vs n)
-      (l ∙ sym (length-written big k op size vs n)) (public-written big k op size vs) in
+  written-view big op size vs =
+      let l = length-written big op size vs m in
+      let w = whole (secret labels vs) (bytesWritten big op size vs m) (bytesWritten big op size vs n)
+      (l ∙ sym (length-written big op size vs n)) (public-written big op size vs) in
       rw l at w
 
 data SameSteps : Stepped → Stepped → Type 0 where
@@ -119,7 +119,7 @@ module _ (big : Bool) {labels m n : Memory} (r : Spaces Public labels m n) where
   unfolding carriedOut
   carried-view k op at x (Decision.stop e) = halts (ended-view _ 0 at)
   carried-view k op at x (Decision.exit words d) = halts (ended-view 1 d _)
-  carried-view k op at x (Decision.next words i) = goes (spaces-written r _ (written-view r big k op _ _))
+  carried-view k op at x (Decision.next words i) = goes (spaces-written r _ (written-view r big op _ _))
 
   -- what follows from the value of what must be public is the same where it is public, and is LEAK where it is not
   decided-view : (t : Bool) (k : Kind) (op : Operation) (at : Position) (i extent room x y : ℕ) → (t ≡ false → x ≡ y)

@@ -1,12 +1,12 @@
 -- What each operation reads, writes and must find public.
 use Prim.Native.Nat.{ℕ}
-use mathlib.Core.Bool.{Bool, true, false, cond, _||_, not}
+use mathlib.Core.Bool.{Bool, false, cond, _||_, not}
 use mathlib.Core.List.{List, [], _∷_, _++_}
 use lib.Dec.{eqb}
 use lib.ListN.{getD, replicate}
 use Rattle.word.specs.Word.{part, bytesOf}
 use Rattle.integer.specs.Operations.{flag}
-use Rattle.arithmetic.specs.Operands.{divides}
+use Rattle.arithmetic.specs.Operands.{among, divides}
 use Rattle.arithmetic.specs.Result.{result}
 use Rattle.operation.specs.declared.layout.Varnode.{Varnode}
 use Rattle.operation.specs.Layout.{opcodeAt, varnodeAt}
@@ -105,31 +105,13 @@ target compute op pointer = op .output
 
 -- ---- the bytes written
 
--- Whether the bytes written are bytes read, moved by significance; else they are those of a computed number.
-unfoldable pub moves : Kind → Bool
-moves copy = true
-moves load = true
-moves store = true
-moves branch = false
-moves cbranch = false
-moves jump = false
-moves piece = true
-moves subpiece = true
-moves divide = false
-moves compute = false
+-- COPY, LOAD, STORE, PIECE, SUBPIECE, INT_ZEXT: the bytes written are bytes read, moved by significance; else those of a number.
+unfoldable pub moves : Operation → Bool
+moves op = among (op .opcode) (1 ∷ 2 ∷ 3 ∷ 10 ∷ 11 ∷ 19 ∷ [])
 
--- SUBPIECE drops input1 low bytes.
-unfoldable pub dropped : Kind → Operation → ℕ
-dropped subpiece op = op .input1 .offset
-dropped copy op = 0
-dropped load op = 0
-dropped store op = 0
-dropped branch op = 0
-dropped cbranch op = 0
-dropped jump op = 0
-dropped piece op = 0
-dropped divide op = 0
-dropped compute op = 0
+-- 11 SUBPIECE drops input1 low bytes.
+unfoldable pub dropped : Operation → ℕ
+dropped op = cond (eqb (op .opcode) 11) (op .input1 .offset) 0
 
 unfoldable pub digitsOf : (big : Bool) → Memory → List Varnode → List ℕ
 digitsOf big m [] = []
@@ -145,10 +127,10 @@ computed op values =
     result (op .opcode) (op .output .size) (op .input0 .size) (op .input1 .size) (getD values 0 0) (getD values 1 0)
 
 -- The bytes that an operation writes to its target of `size` bytes, in memory order; missing high bytes are 0.
-unfoldable pub bytesWritten : (big : Bool) → Kind → Operation → (size : ℕ) → List Varnode → Memory → List ℕ
-bytesWritten big k op size vs m =
-    cond (moves k)
-    (ordered big (part (digitsOf big m vs) (dropped k op) size))
+unfoldable pub bytesWritten : (big : Bool) → Operation → (size : ℕ) → List Varnode → Memory → List ℕ
+bytesWritten big op size vs m =
+    cond (moves op)
+    (ordered big (part (digitsOf big m vs) (dropped op) size))
     (bytesOf big size (computed op (valuesOf big m vs)))
 
 -- ---- the labels written

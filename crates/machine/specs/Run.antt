@@ -111,7 +111,7 @@ carriedOut big k op at labels m value (exit words d) = halted (ended 1 d (advanc
 carriedOut big k op at labels m value (next words i) =
     going (advanced at i words)
     (written labels (target k op value) (labelsWritten (target k op value .size) (sources k op value) labels))
-    (written m (target k op value) (bytesWritten big k op (target k op value .size) (sources k op value) m))
+    (written m (target k op value) (bytesWritten big op (target k op value .size) (sources k op value) m))
 
 unfoldable pub performedAs : (big : Bool) → Kind → Operation → Position → (labels memory : Memory) → Stepped
 performedAs big k op at labels m =

@@ -50,7 +50,7 @@ pub fn verdict(settings: Settings, lengths: Lengths, list: &[u64]) -> Report
 }
 
 // The report of a call in which nothing ran.
-pub fn nothing_ran(ending: u64, index: u64) -> Report
+fn nothing_ran(ending: u64, index: u64) -> Report
     ensures { λ r. ⌜ r ≡ nothingRan ending index ⌝ }
 {
     Report {
@@ -62,7 +62,7 @@ pub fn nothing_ran(ending: u64, index: u64) -> Report
     }
 }
 
-pub fn settings_in_range(settings: Settings) -> bool
+fn settings_in_range(settings: Settings) -> bool
     ensures { λ r. ⌜ r ≡ settingsInRange settings ⌝ }
 {
     let order = settings.order;
@@ -76,7 +76,7 @@ pub fn settings_in_range(settings: Settings) -> bool
     address_size <= 8
 }
 
-pub fn lengths_in_range(lengths: Lengths, list: &[u64]) -> bool
+fn lengths_in_range(lengths: Lengths, list: &[u64]) -> bool
     ensures { λ r. ⌜ r ≡ lengthsInRange lengths (now (list .entry)) ⌝ }
 {
     let unique = lengths.unique;
@@ -99,7 +99,7 @@ pub fn lengths_in_range(lengths: Lengths, list: &[u64]) -> bool
 
 // The first operation in list order that breaks a rule, with the lowest rule that it breaks. Rule 22 is left at once, since no later
 // place can break a lower one; 23 and 24 wait until every place has passed 22.
-pub fn first_malformed(address_size: u64, lengths: Lengths, list: &[u64]) -> Malformed
+fn first_malformed(address_size: u64, lengths: Lengths, list: &[u64]) -> Malformed
     ensures { λ r. ⌜ r ≡ malformed «address_size» lengths (now (list .entry)) ⌝ }
 {
     let count = list.len() / WORDS_PER_OPERATION;
