@@ -11,16 +11,13 @@ use Rattle.operation.specs.Layout.{operationCount}
 use Rattle.machine.specs.Memory.{Memory}
 use Rattle.machine.specs.Effect.{Operation, Kind, operationAt}
 use Rattle.machine.specs.Run.{Stop, Decision, Position, Ended, Stepped, endingOf, advanced, ended, carriedOut, performedAs, performed, stepped, continued, run}
+use Rattle.machine.proofs.Cases.{either, either₂}
 
 -- ---- an operation never stops for the budget
 
 data Goes : Stepped → Type 0 where
   halts : {r : Ended} → (r .ending ≡ 2 → ⊥) → Goes (Stepped.halted r)
   goes : {at : Position} {labels m : Memory} → Goes (Stepped.going at labels m)
-
-goes-cond : (c : Bool) {a b : Stepped} → Goes a → Goes b → Goes (cond c a b)
-goes-cond true h q = h
-goes-cond false h q = q
 
 stop-ending : (e : Stop) → endingOf e ≡ 2 → ⊥
 unfolding endingOf
@@ -38,7 +35,7 @@ carried-goes big k op at labels m x (Decision.next words i) = goes
 stepped-goes : (big : Bool) (list : List ℕ) (at : Position) (labels m : Memory) → Goes (stepped big list at labels m)
 unfolding stepped performed performedAs ended
 stepped-goes big list at labels m =
-    goes-cond (ltb (at .index) (operationCount list)) (carried-goes big _ (operationAt list (at .index)) at labels m _ _) (halts (λ (h : _≡_ {A = ℕ} 0 2). omega arith))
+    either Goes (ltb (at .index) (operationCount list)) _ _ (carried-goes big _ (operationAt list (at .index)) at labels m _ _) (halts (λ (h : _≡_ {A = ℕ} 0 2). omega arith))
 
 -- ---- the budgets add up
 
@@ -89,10 +86,6 @@ data Later (c : ℕ) (words : List ℕ) : Stepped → Stepped → Type 0 where
   halts : {r : Ended} → Later c words (Stepped.halted (laterEnded c words r)) (Stepped.halted r)
   goes : {at : Position} {labels m : Memory} → Later c words (Stepped.going (later c words at) labels m) (Stepped.going at labels m)
 
-later-cond : (c : ℕ) (words : List ℕ) (t : Bool) {p q x y : Stepped} → Later c words p q → Later c words x y → Later c words (cond t p x) (cond t q y)
-later-cond c words true h q = h
-later-cond c words false h q = q
-
 advanced-later : (c : ℕ) (words : List ℕ) (at : Position) (i : ℕ) (vs : List ℕ) → advanced (later c words at) i vs ≡ later c words (advanced at i vs)
 unfolding advanced later
 advanced-later c words at i vs = rw (add-suc, append-assoc)
@@ -108,7 +101,7 @@ module _ (c : ℕ) (words : List ℕ) (big : Bool) (list : List ℕ) where
   stepped-later : (at : Position) (labels m : Memory) → Later c words (stepped big list (later c words at) labels m) (stepped big list at labels m)
   unfolding stepped performed performedAs later laterEnded ended
   stepped-later at labels m =
-      later-cond c words (ltb (at .index) (operationCount list)) (carried-later _ (operationAt list (at .index)) at labels m _ _) halts
+      either₂ (Later c words) (ltb (at .index) (operationCount list)) _ _ _ _ (carried-later _ (operationAt list (at .index)) at labels m _ _) halts
 
   continued-later : (f : Position → Memory → Memory → Ended) → ((at : Position) (labels m : Memory) → f (later c words at) labels m ≡ laterEnded c words (f at labels m))
       → {a b : Stepped} → Later c words a b → continued f a ≡ laterEnded c words (continued f b)

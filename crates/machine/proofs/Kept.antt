@@ -17,6 +17,7 @@ use Rattle.machine.specs.Memory.{Memory, lengthsOf, spaceOf, withSpace, 
 use Rattle.machine.specs.Effect.{Operation, Kind, operationAt, sources, target, secret, labelsWritten}
 use Rattle.machine.specs.Run.{Stop, Decision, Position, Ended, Stepped, logging, goTo, access, checked, decided, advanced, ended, carriedOut, performedAs, performed, stepped, continued, run}
 use Rattle.machine.specs.Calls.{allLabels, labelsInRange, starting, unlabelled}
+use Rattle.machine.proofs.Cases.{either}
 
 -- ---- writing keeps lengths, and labels of 0 or 1
 
@@ -84,10 +85,6 @@ data Fits (room : ℕ) : Decision → Type 0 where
   nexts : {words : List ℕ} {i : ℕ} → length words ≤ room → Fits room (Decision.next words i)
   exits : {words : List ℕ} {d : ℕ} → length words ≤ room → Fits room (Decision.exit words d)
 
-fits-cond : (room : ℕ) (c : Bool) {a b : Decision} → Fits room a → Fits room b → Fits room (cond c a b)
-fits-cond room true h q = h
-fits-cond room false h q = q
-
 logging-fits : (room word : ℕ) (d : List ℕ → Decision) → ((words : List ℕ) → length words ≤ room → Fits room (d words)) → Fits room (logging room word d)
 unfolding logging
 logging-fits room word d h = by (eqb room 0) refl
@@ -98,11 +95,11 @@ logging-fits room word d h = by (eqb room 0) refl
 
 goto-fits : (room i : ℕ) (v : Varnode) (words : List ℕ) → length words ≤ room → Fits room (goTo i v words)
 unfolding goTo
-goto-fits room i v words h = fits-cond room (eqb (v .space) 1) (nexts h) (exits h)
+goto-fits room i v words h = either (Fits room) (eqb (v .space) 1) _ _ (nexts h) (exits h)
 
 access-fits : (i extent room pointer size : ℕ) → Fits room (access i extent room pointer size)
 unfolding access
-access-fits i extent room pointer size = fits-cond room (leb (pointer + size) extent) (logging-fits room _ _ (λ words h. nexts h)) stops
+access-fits i extent room pointer size = either (Fits room) (leb (pointer + size) extent) _ _ (logging-fits room _ _ (λ words h. nexts h)) stops
 
 checked-fits : (k : Kind) (op : Operation) (i extent room x : ℕ) → Fits room (checked k op i extent room x)
 unfolding checked
@@ -111,16 +108,16 @@ checked-fits Kind.load op i extent room x = access-fits i extent room x _
 checked-fits Kind.store op i extent room x = access-fits i extent room x _
 checked-fits Kind.branch op i extent room x = goto-fits room i (op .input0) [] (omega arith)
 checked-fits Kind.cbranch op i extent room x =
-    fits-cond room (eqb x 0) (logging-fits room _ _ (λ words h. nexts h)) (logging-fits room _ _ (goto-fits room i (op .input0)))
+    either (Fits room) (eqb x 0) _ _ (logging-fits room _ _ (λ words h. nexts h)) (logging-fits room _ _ (goto-fits room i (op .input0)))
 checked-fits Kind.jump op i extent room x = exits {words = []} (omega arith)
 checked-fits Kind.piece op i extent room x = nexts {words = []} (omega arith)
 checked-fits Kind.subpiece op i extent room x = nexts {words = []} (omega arith)
-checked-fits Kind.divide op i extent room x = fits-cond room (eqb x 0) stops (nexts {words = []} (omega arith))
+checked-fits Kind.divide op i extent room x = either (Fits room) (eqb x 0) _ _ stops (nexts {words = []} (omega arith))
 checked-fits Kind.compute op i extent room x = nexts {words = []} (omega arith)
 
 decided-fits : (t : Bool) (k : Kind) (op : Operation) (i extent room x : ℕ) → Fits room (decided t k op i extent room x)
 unfolding decided
-decided-fits t k op i extent room x = fits-cond room t stops (checked-fits k op i extent room x)
+decided-fits t k op i extent room x = either (Fits room) t _ _ stops (checked-fits k op i extent room x)
 
 -- ---- the run
 
@@ -135,10 +132,6 @@ module _ (words : ℕ) (spaces marks : Lengths) (big : Bool) (list : List ℕ) w
   data KeptStep : Stepped → Type 0 where
     halts : {r : Ended} → Kept words spaces marks (r .position) (r .labels) (r .memory) → KeptStep (Stepped.halted r)
     goes : {at : Position} {labels m : Memory} → Kept words spaces marks at labels m → KeptStep (Stepped.going at labels m)
-
-  kept-cond : (c : Bool) {a b : Stepped} → KeptStep a → KeptStep b → KeptStep (cond c a b)
-  kept-cond true h q = h
-  kept-cond false h q = q
 
   advanced-log : (at : Position) (i : ℕ) (vs : List ℕ) → length vs ≤ at .room → at .room + length (at .log) ≡ words
       → advanced at i vs .room + length (advanced at i vs .log) ≡ words
@@ -162,7 +155,7 @@ module _ (words : ℕ) (spaces marks : Lengths) (big : Bool) (list : List ℕ) w
   stepped-kept : (at : Position) (labels m : Memory) → Kept words spaces marks at labels m → KeptStep (stepped big list at labels m)
   unfolding stepped performed performedAs ended
   stepped-kept at labels m h =
-      kept-cond (ltb (at .index) (operationCount list))
+      either KeptStep (ltb (at .index) (operationCount list)) _ _
       (carried-kept _ (operationAt list (at .index)) at labels m _ (decided-fits _ _ _ _ _ _ _) h) (halts h)
 
   continued-kept : (f : Position → Memory → Memory → Ended)

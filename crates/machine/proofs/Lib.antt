@@ -1,3 +1,4 @@
+pub mod Cases
 pub mod Refusals
 pub mod Pointwise
 pub mod Secrecy
@@ -9,3 +10,4 @@ pub mod Resume
 pub mod Limits
 pub mod Marked
 pub mod Moves
+pub mod Conditions

@@ -16,6 +16,7 @@ use Rattle.machine.specs.Calls.{Outcome, sameLengths, labelsInRange, log
 use Rattle.machine.specs.Limits.{Unchanged, Limited, afterOperations, stateOf, Limits}
 use Rattle.machine.proofs.Refusals.{Refuses, refusal-refuses, nothing-ran, not-stopped, accepted-labels}
 use Rattle.machine.proofs.Kept.{started-kept, unlabelled-in-range}
+use Rattle.machine.proofs.Cases.{either}
 
 -- ---- how a single operation ends, and what it counts
 
@@ -25,10 +26,6 @@ data Counts (at : Position) (labels m : Memory) : Stepped → Type 0 where
       → Counts at labels m (Stepped.halted r)
   exits : {r : Ended} → r .ending ≡ 1 → r .position .executed ≡ suc (at .executed) → Counts at labels m (Stepped.halted r)
   goes : {next : Position} {ls n : Memory} → next .executed ≡ suc (at .executed) → Counts at labels m (Stepped.going next ls n)
-
-counts-cond : (at : Position) (labels m : Memory) (c : Bool) {a b : Stepped} → Counts at labels m a → Counts at labels m b → Counts at labels m (cond c a b)
-counts-cond at labels m true h q = h
-counts-cond at labels m false h q = q
 
 stop-large : (e : Stop) → 31 ≤ endingOf e
 unfolding endingOf
@@ -49,7 +46,7 @@ carried-counts big k op at labels m x (Decision.next words i) = goes refl
 stepped-counts : (big : Bool) (list : List ℕ) (at : Position) (labels m : Memory) → Counts at labels m (stepped big list at labels m)
 unfolding stepped performed performedAs ended
 stepped-counts big list at labels m =
-    counts-cond at labels m (ltb (at .index) (operationCount list)) (carried-counts big _ (operationAt list (at .index)) at labels m _ _)
+    either (Counts at labels m) (ltb (at .index) (operationCount list)) _ _ (carried-counts big _ (operationAt list (at .index)) at labels m _ _)
     (stays {r = ended 0 0 at labels m} (λ (x : 10 ≤ 0) y. omega (arith, x)) (λ (h : _≡_ {A = ℕ} 0 2). omega arith) refl refl refl)
 
 -- ---- the run

@@ -15,14 +15,9 @@ use Rattle.word.specs.Word.{part, significance, valueOf, bytesOf}
 use Rattle.word.proofs.Sums.{tabulate-is, tabulate-past}
 use Rattle.word.proofs.Powers.{pow-bits, size-mono}
 use Rattle.word.proofs.Laws.{significance-lt, significance-twice, part-length, part-bytes, bytes-length, bytes-at, bytes-bytes, read-written, written-read}
-use Rattle.integer.specs.Operations.{piece, subpiece, intZext}
-use Rattle.arithmetic.specs.Operands.{among, divides}
-use Rattle.operation.specs.Rules.{branches, jumps}
-use Rattle.arithmetic.specs.Result.{lookup, result}
 use Rattle.operation.specs.declared.layout.Varnode.{Varnode}
-use Rattle.machine.specs.Memory.{Memory, spaceOf, bytesAt, valueAt, ordered, digitsAt}
-use Rattle.machine.specs.Effect.{kindOf, sources, dropped, moves, digitsOf, bytesWritten}
-use Rattle.machine.specs.Moves.{OfBytes, Moves}
+use Rattle.machine.specs.Memory.{Memory, OfBytes, spaceOf, bytesAt, valueAt, ordered, digitsAt}
+use Rattle.machine.specs.Effect.{Operation, dropped, moves, digitsOf, bytesWritten}
 
 -- ordering the bytes of a number puts them in the other order
 ordered-back : (big : Bool) (n x : ℕ) → ordered big (bytesOf big n x) ≡ bytesOf false n x
@@ -139,12 +134,25 @@ two-sources big m u v n b hu hv =
     ∙ ap (ordered big) (rw (digits-of big m u b, digits-of big m v b) (joined (u .size) (v .size) (valueAt big m u) (valueAt big m v) hu hv n))
     ∙ ordered-out big n (valueAt big m u * 256 ^ v .size + valueAt big m v)
 
-pub moves-are : Moves
-unfolding bytesWritten kindOf sources dropped moves among branches jumps divides result lookup intZext subpiece piece
-moves-are = record {
-  zext = λ big op m size pointer e b h.
-      rw e (one-source big m (op .input0) 0 size b h ∙ ap (bytesOf big size) (div-one (valueAt big m (op .input0))));
-  subpiece = λ big op m size pointer e b h.
-      rw e (one-source big m (op .input0) (op .input1 .offset) size b h ∙ bytes-mod big size (valueAt big m (op .input0) / 256 ^ op .input1 .offset));
-  piece = λ big op m size pointer e b h0 h1. rw e (two-sources big m (op .input0) (op .input1) size b h0 h1);
-}
+-- a move from one varnode, which leaves out its k least significant bytes
+pub moved : (big : Bool) (op : Operation) (m : Memory) (v : Varnode) (k n : ℕ) → moves op ≡ true → dropped op ≡ k → OfBytes m
+    → valueAt big m v < 256 ^ v .size → bytesWritten big op n (v ∷ []) m ≡ bytesOf big n (valueAt big m v / 256 ^ k)
+unfolding bytesWritten
+moved big op m v k n e d b h = rw (e, d) (one-source big m v k n b h)
+
+-- a move of a whole varnode
+pub moved-whole : (big : Bool) (op : Operation) (m : Memory) (v : Varnode) (n : ℕ) → moves op ≡ true → dropped op ≡ 0 → OfBytes m
+    → valueAt big m v < 256 ^ v .size → bytesWritten big op n (v ∷ []) m ≡ bytesOf big n (valueAt big m v)
+moved-whole big op m v n e d b h = moved big op m v 0 n e d b h ∙ ap (bytesOf big n) (div-one (valueAt big m v))
+
+-- SUBPIECE: n bytes are written of the number that is left
+pub moved-part : (big : Bool) (op : Operation) (m : Memory) (v : Varnode) (k n : ℕ) → moves op ≡ true → dropped op ≡ k → OfBytes m
+    → valueAt big m v < 256 ^ v .size → bytesWritten big op n (v ∷ []) m ≡ bytesOf big n (valueAt big m v / 256 ^ k % 256 ^ n)
+moved-part big op m v k n e d b h = moved big op m v k n e d b h ∙ bytes-mod big n (valueAt big m v / 256 ^ k)
+
+-- PIECE: u above v
+pub moved-both : (big : Bool) (op : Operation) (m : Memory) (u v : Varnode) (n : ℕ) → moves op ≡ true → dropped op ≡ 0 → OfBytes m
+    → valueAt big m u < 256 ^ u .size → valueAt big m v < 256 ^ v .size
+    → bytesWritten big op n (v ∷ u ∷ []) m ≡ bytesOf big n (valueAt big m u * 256 ^ v .size + valueAt big m v)
+unfolding bytesWritten
+moved-both big op m u v n e d b hu hv = rw (e, d) (two-sources big m u v n b hu hv)

@@ -1,7 +1,7 @@
 -- Demand 3, second half: where the labelled run does not end with LEAK, the plain run is the same run. Assumes nothing.
 use Prim.Native.Nat.{ℕ, zero, suc}
 use mathlib.Core.Path.{_≡_, refl}
-use mathlib.Core.Bool.{Bool, true, false, cond}
+use mathlib.Core.Bool.{Bool, true, false}
 use mathlib.Core.List.{List, [], _∷_}
 use lib.Seq.{sets}
 use lib.Dec.{ltb, eqb}
@@ -13,6 +13,7 @@ use Rattle.machine.specs.Memory.{Memory, spaceOf, withSpace, bytesAt, wr
 use Rattle.machine.specs.Effect.{Operation, Kind, operationAt, anySecret, secret}
 use Rattle.machine.specs.Run.{Decision, Position, Ended, Stepped, decided, checked, ended, endingOf, carriedOut, performedAs, performed, stepped, continued, run}
 use Rattle.machine.specs.Calls.{unlabelled}
+use Rattle.machine.proofs.Cases.{either-equal, either₂}
 
 -- The same ending, value, position and bytes.
 pub record SameRun (r q : Ended) : Type 0 where
@@ -23,19 +24,15 @@ pub record SameRun (r q : Ended) : Type 0 where
 
 -- ---- no labels: all is public, and nothing is written
 
-cond-both : {A : Type 0} (c : Bool) {a b d : A} → a ≡ d → b ≡ d → cond c a b ≡ d
-cond-both true e f = e
-cond-both false e f = f
-
 unlabelled-space : (space : ℕ) → spaceOf unlabelled space ≡ []
 unfolding unlabelled spaceOf
-unlabelled-space space = cond-both (eqb space 2) refl (cond-both (eqb space 3) refl (cond-both (eqb space 4) refl refl))
+unlabelled-space space = either-equal (eqb space 2) refl (either-equal (eqb space 3) refl (either-equal (eqb space 4) refl refl))
 
 unlabelled-with : (space : ℕ) → withSpace unlabelled space [] ≡ unlabelled
 unfolding unlabelled withSpace
-unlabelled-with space = cond-both (eqb space 2) refl (cond-both (eqb space 3) refl (cond-both (eqb space 4) refl refl))
+unlabelled-with space = either-equal (eqb space 2) refl (either-equal (eqb space 3) refl (either-equal (eqb space 4) refl refl))
 
-none-secret : (n : ℕ) (f : ℕ → ℕ) → ((i : ℕ) → f i ≡ 0) → anySecret (tabulate n f) ≡ false
+pub none-secret : (n : ℕ) (f : ℕ → ℕ) → ((i : ℕ) → f i ≡ 0) → anySecret (tabulate n f) ≡ false
 unfolding tabulate anySecret
 none-secret zero f h = refl
 none-secret (suc n) f h = rw (h 0) (none-secret n _ (λ i. h (suc i)))
@@ -60,10 +57,6 @@ data SameSteps : Stepped → Stepped → Type 0 where
   halts : {r q : Ended} → SameRun r q → SameSteps (Stepped.halted r) (Stepped.halted q)
   goes : {at : Position} {labels m : Memory} → SameSteps (Stepped.going at unlabelled m) (Stepped.going at labels m)
 
-steps-cond : (c : Bool) {a b x y : Stepped} → SameSteps a b → SameSteps x y → SameSteps (cond c a x) (cond c b y)
-steps-cond true h q = h
-steps-cond false h q = q
-
 module _ (big : Bool) (labels m : Memory) where
   ended-same : (e v : ℕ) (at : Position) → SameRun (ended e v at unlabelled m) (ended e v at labels m)
   unfolding ended
@@ -86,7 +79,7 @@ module _ (big : Bool) (labels m : Memory) where
   unfolding stepped performed performedAs
   stepped-same list at =
       rw nothing-secret
-      (steps-cond (ltb (at .index) (operationCount list)) (decided-same _ _ (operationAt list (at .index)) at _ _ _ _) (halts (ended-same 0 0 at)))
+      (either₂ SameSteps (ltb (at .index) (operationCount list)) _ _ _ _ (decided-same _ _ (operationAt list (at .index)) at _ _ _ _) (halts (ended-same 0 0 at)))
 
 continued-same : (f : Position → Memory → Memory → Ended)
     → ((at : Position) (labels m : Memory) → (f at labels m .ending ≡ 31 → ⊥) → SameRun (f at unlabelled m) (f at labels m))

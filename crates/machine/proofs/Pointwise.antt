@@ -3,7 +3,6 @@
 use Prim.Native.Nat.{ℕ, zero, suc, _+_, _<_}
 use native.Mathlib.Omega.{arith}
 use mathlib.Core.Path.{_≡_, refl, ap}
-use mathlib.Core.Bool.{Bool, true, false, cond}
 use mathlib.Core.List.{List, [], _∷_}
 use lib.ListN.{length, getD, set}
 use lib.Seq.{sets}
@@ -12,6 +11,7 @@ use Rattle.word.specs.Sum.{tabulate}
 use Rattle.word.specs.Word.{part}
 use Rattle.operation.specs.declared.layout.Varnode.{Varnode}
 use Rattle.machine.specs.Memory.{Memory, lengthsOf, spaceOf, withSpace, bytesAt, written}
+use Rattle.machine.proofs.Cases.{either₃}
 
 -- Three lists of one length, with R at each place.
 pub data Each (R : ℕ → ℕ → ℕ → Type 0) : List ℕ → List ℕ → List ℕ → Type 0 where
@@ -61,26 +61,18 @@ module _ {R : ℕ → ℕ → ℕ → Type 0} where
   each-sets r i Each.empty = r
   each-sets r i (Each.entry h t) = each-sets (each-set r i h) (suc i) t
 
-  each-cond : (c : Bool) {ls a b xs us ws : List ℕ} → Each R ls a b → Each R xs us ws → Each R (cond c ls xs) (cond c a us) (cond c b ws)
-  each-cond true r q = r
-  each-cond false r q = q
-
-  spaces-cond : (c : Bool) {x y z u v w : Memory} → Spaces R x y z → Spaces R u v w → Spaces R (cond c x u) (cond c y v) (cond c z w)
-  spaces-cond true r q = r
-  spaces-cond false r q = q
-
   pub spaces-space : {x y z : Memory} → Spaces R x y z → (space : ℕ) → Each R (spaceOf x space) (spaceOf y space) (spaceOf z space)
   unfolding spaceOf
   spaces-space r space =
-      each-cond (eqb space 2) (r .unique) (each-cond (eqb space 3) (r .register) (each-cond (eqb space 4) (r .ram) Each.empty))
+      either₃ (Each R) (eqb space 2) _ _ _ _ _ _ (r .unique) (either₃ (Each R) (eqb space 3) _ _ _ _ _ _ (r .register) (either₃ (Each R) (eqb space 4) _ _ _ _ _ _ (r .ram) Each.empty))
 
   spaces-with : {x y z : Memory} → Spaces R x y z → (space : ℕ) {ls a b : List ℕ} → Each R ls a b
       → Spaces R (withSpace x space ls) (withSpace y space a) (withSpace z space b)
   unfolding withSpace
   spaces-with r space q =
-      spaces-cond (eqb space 2) (record { unique = q; register = r .register; ram = r .ram })
-      (spaces-cond (eqb space 3) (record { unique = r .unique; register = q; ram = r .ram })
-      (spaces-cond (eqb space 4) (record { unique = r .unique; register = r .register; ram = q }) r))
+      either₃ (Spaces R) (eqb space 2) _ _ _ _ _ _ (record { unique = q; register = r .register; ram = r .ram })
+      (either₃ (Spaces R) (eqb space 3) _ _ _ _ _ _ (record { unique = r .unique; register = q; ram = r .ram })
+      (either₃ (Spaces R) (eqb space 4) _ _ _ _ _ _ (record { unique = r .unique; register = r .register; ram = q }) r))
 
   pub spaces-at : R 0 0 0 → {x y z : Memory} → Spaces R x y z → (v : Varnode) → Each R (bytesAt x v) (bytesAt y v) (bytesAt z v)
   unfolding bytesAt

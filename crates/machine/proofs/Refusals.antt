@@ -14,6 +14,7 @@ use Rattle.operation.specs.Rules.{breaksHead, breaksShapeAt, breaksPlace, break
 use Rattle.validation.specs.declared.Malformed.{Malformed}
 use Rattle.validation.specs.Verdict.{settingsInRange, lengthsInRange, anyPlace, sizeOrTarget, lowestRule, firstMalformed, malformed, nothingRan}
 use Rattle.machine.specs.Calls.{refusal}
+use Rattle.machine.proofs.Cases.{either}
 
 -- ---- no refusal is numbered 2
 
@@ -44,21 +45,17 @@ first-not-two f h (suc m) i e = by (eqb (f i) 0) (firstMalformed f m (i + 1)) (f
 pub data Refuses : Report → Type 0 where
   refuses : (ending index : ℕ) → (ending ≡ 2 → ⊥) → Refuses (nothingRan ending index)
 
-refuses-cond : (c : Bool) {a b : Report} → Refuses a → Refuses b → Refuses (cond c a b)
-refuses-cond true p q = p
-refuses-cond false p q = q
-
 pub refusal-refuses : (settings : Settings) (lengths : Lengths) (list : List ℕ) (start : ℕ) (fitting valid : Bool)
     → Refuses (refusal settings lengths list start fitting valid)
 unfolding refusal malformed
 refusal-refuses settings lengths list start fitting valid =
     let rule = lowestRule (settings .«address_size») lengths list in
     let found = firstMalformed rule (operationCount list) 0 in
-    refuses-cond (not (settingsInRange settings)) (refuses 10 0 (λ h. omega arith))
-    (refuses-cond (not (lengthsInRange lengths list && fitting)) (refuses 11 0 (λ h. omega arith))
-    (refuses-cond (not valid) (refuses 12 0 (λ h. omega arith))
-    (refuses-cond (not (eqb (found .rule) 0)) (refuses (found .rule) (found .index) (first-not-two rule (rule-not-two (settings .«address_size») lengths list) (operationCount list) 0))
-    (refuses-cond (ltb (operationCount list) start) (refuses 27 0 (λ h. omega arith)) (refuses 0 0 (λ h. omega arith))))))
+    either Refuses (not (settingsInRange settings)) _ _ (refuses 10 0 (λ h. omega arith))
+    (either Refuses (not (lengthsInRange lengths list && fitting)) _ _ (refuses 11 0 (λ h. omega arith))
+    (either Refuses (not valid) _ _ (refuses 12 0 (λ h. omega arith))
+    (either Refuses (not (eqb (found .rule) 0)) _ _ (refuses (found .rule) (found .index) (first-not-two rule (rule-not-two (settings .«address_size») lengths list) (operationCount list) 0))
+    (either Refuses (ltb (operationCount list) start) _ _ (refuses 27 0 (λ h. omega arith)) (refuses 0 0 (λ h. omega arith))))))
 
 pub nothing-ran : {r : Report} → Refuses r → (r .executed ≡ 0) × (r .logged ≡ 0) × (r .value ≡ 0)
 unfolding nothingRan

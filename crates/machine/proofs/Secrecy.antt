@@ -2,7 +2,7 @@
 use Prim.Native.Nat.{ℕ, zero, suc}
 use native.Mathlib.Omega.{arith}
 use mathlib.Core.Path.{_≡_, refl, sym, ap, ap₂, _∙_}
-use mathlib.Core.Bool.{Bool, true, false, cond, not}
+use mathlib.Core.Bool.{Bool, true, false, not}
 use mathlib.Core.List.{List, [], _∷_}
 use borrow.Author.Tests.{eqb-true, not-false}
 use lib.ListN.{length, getD, replicate}
@@ -17,6 +17,7 @@ use Rattle.machine.specs.Memory.{Memory, bytesAt, valueAt, ordered, digi
 use Rattle.machine.specs.Effect.{Operation, Kind, operationAt, guarded, moves, dropped, digitsOf, valuesOf, computed, bytesWritten, anySecret, secret, labelsWritten}
 use Rattle.machine.specs.Run.{Decision, Position, Ended, Stepped, decided, checked, ended, guardedValue, carriedOut, performedAs, performed, stepped, continued, run}
 use Rattle.machine.proofs.Pointwise.{Each, Spaces, each-length, spaces-space, spaces-at, spaces-written}
+use Rattle.machine.proofs.Cases.{either, either₂}
 
 -- Under the label 0 (public) the two bytes are the same.
 abbrev pub Public : (label first second : ℕ) → Type 0
@@ -54,10 +55,6 @@ whole t (x ∷ a) (y ∷ b) n h =
     let rest : t ≡ false → a ≡ b = λ z. cc (h z) in
     Each.entry first (whole t a b (omega arith) rest)
 
-length-cond : (c : Bool) (a b : List ℕ) {n : ℕ} → length a ≡ n → length b ≡ n → length (cond c a b) ≡ n
-length-cond true a b h q = h
-length-cond false a b h q = q
-
 length-ordered : (big : Bool) (bs : List ℕ) → length (ordered big bs) ≡ length bs
 unfolding ordered
 length-ordered big bs = tabulate-length (length bs) _
@@ -65,7 +62,7 @@ length-ordered big bs = tabulate-length (length bs) _
 length-written : (big : Bool) (op : Operation) (n : ℕ) (vs : List Varnode) (m : Memory) → length (bytesWritten big op n vs m) ≡ n
 unfolding bytesWritten
 length-written big op n vs m =
-    length-cond (moves op) _ _ (length-ordered big _ ∙ part-length (digitsOf big m vs) (dropped op) n) (bytes-length big n (computed op (valuesOf big m vs)))
+    either (λ (l : List ℕ). length l ≡ n) (moves op) _ _ (length-ordered big _ ∙ part-length (digitsOf big m vs) (dropped op) n) (bytes-length big n (computed op (valuesOf big m vs)))
 
 module _ {labels m n : Memory} (r : Spaces Public labels m n) where
   public-bytes : (v : Varnode) → anySecret (bytesAt labels v) ≡ false → bytesAt m v ≡ bytesAt n v
@@ -105,10 +102,6 @@ data SameSteps : Stepped → Stepped → Type 0 where
   halts : {r q : Ended} → SameView r q → SameSteps (Stepped.halted r) (Stepped.halted q)
   goes : {at : Position} {labels m n : Memory} → Spaces Public labels m n → SameSteps (Stepped.going at labels m) (Stepped.going at labels n)
 
-steps-cond : (c : Bool) {a b x y : Stepped} → SameSteps a b → SameSteps x y → SameSteps (cond c a x) (cond c b y)
-steps-cond true h q = h
-steps-cond false h q = q
-
 module _ (big : Bool) {labels m n : Memory} (r : Spaces Public labels m n) where
   ended-view : (e v : ℕ) (at : Position) → SameView (ended e v at labels m) (ended e v at labels n)
   unfolding ended
@@ -136,7 +129,7 @@ module _ (big : Bool) {labels m n : Memory} (r : Spaces Public labels m n) where
 
   stepped-view : (list : List ℕ) (at : Position) → SameSteps (stepped big list at labels m) (stepped big list at labels n)
   unfolding stepped performed
-  stepped-view list at = steps-cond (ltb (at .index) (operationCount list)) (performed-view _ (operationAt list (at .index)) at) (halts (ended-view 0 0 at))
+  stepped-view list at = either₂ SameSteps (ltb (at .index) (operationCount list)) _ _ _ _ (performed-view _ (operationAt list (at .index)) at) (halts (ended-view 0 0 at))
 
 -- ---- the run
 

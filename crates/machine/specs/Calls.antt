@@ -87,3 +87,10 @@ unlabelled = record { unique = []; register = []; ram = [] }
 unfoldable pub plainRun : Settings → (list : List ℕ) → (start budget : ℕ) → (log : List ℕ) → (memory : Memory) → Outcome
 plainRun settings list start budget log m =
     called settings list start budget log unlabelled m (refusal settings (lengthsOf m) list start true true)
+
+-- The step is a run with budget 1.
+abbrev pub labelledStep : Settings → (list : List ℕ) → (start : ℕ) → (log : List ℕ) → (labels memory : Memory) → Outcome
+labelledStep settings list start log labels m = labelledRun settings list start 1 log labels m
+
+abbrev pub plainStep : Settings → (list : List ℕ) → (start : ℕ) → (log : List ℕ) → (memory : Memory) → Outcome
+plainStep settings list start log m = plainRun settings list start 1 log m

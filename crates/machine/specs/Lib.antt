@@ -6,4 +6,4 @@ pub mod Noninterference
 pub mod Resume
 pub mod Limits
 pub mod Marked
-pub mod Moves
+pub mod Conditions

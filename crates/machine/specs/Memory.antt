@@ -6,7 +6,7 @@ use lib.Dec.{eqb}
 use lib.ListN.{length, getD}
 use lib.Seq.{sets}
 use Rattle.word.specs.Sum.{tabulate}
-use Rattle.word.specs.Word.{part, significance, valueOf, bytesOf}
+use Rattle.word.specs.Word.{Bytes, part, significance, valueOf, bytesOf}
 use Rattle.operation.specs.declared.layout.Varnode.{Varnode}
 use Rattle.operation.specs.declared.layout.Lengths.{Lengths}
 
@@ -22,6 +22,10 @@ lengthsOf m = record { unique = length (m .unique); register = length (m .regist
 -- The bytes of a space, by its number: 2 unique, 3 register, 4 ram. The constant space has none, and a number that is no space has none.
 unfoldable pub spaceOf : Memory → (space : ℕ) → List ℕ
 spaceOf m space = cond (eqb space 2) (m .unique) (cond (eqb space 3) (m .register) (cond (eqb space 4) (m .ram) []))
+
+-- A memory whose entries are bytes.
+abbrev pub OfBytes : Memory → Type 0
+OfBytes m = (space : ℕ) → Bytes (spaceOf m space)
 
 -- The memory with another content of one space.
 unfoldable pub withSpace : Memory → (space : ℕ) → List ℕ → Memory

@@ -1,12 +1,15 @@
 -- A relative branch's target, told without the signed sum. Assumes nothing.
-use Prim.Native.Nat.{ℕ, suc, _+_, _-_, _^_, _≤_, _<_}
+use Prim.Native.Nat.{ℕ, suc, _+_, _-_, _%_, _^_, _≤_, _<_}
+use native.Mathlib.Nat.{mod-eq-of-lt, mod-add-mod}
 use mathlib.Core.Bool.{Bool, true, false, _||_}
-use mathlib.Core.Path.{_≡_, refl}
+use mathlib.Core.Path.{_≡_, refl, sym, ap, _∙_}
 use native.Mathlib.Omega.{arith}
 use borrow.Author.Tests.{ltb-true, ltb-false, le-ltb, le-leb, lt-leb}
 use lib.Dec.{ltb, leb}
 use lib.IntN.{pos, negsuc, _+ℤ_}
 use lib.Signed.{ltZ}
+use Rattle.integer.specs.Integers.{signed, wrap}
+use Rattle.integer.proofs.Modular.{wrap-signed, wrap-add}
 use Rattle.integer.proofs.TwosComplement.{signed-low, signed-high}
 use Rattle.word.proofs.Tests.{leb-agree}
 use Rattle.operation.specs.Rules.{relativeTarget, targetOutside}
@@ -30,3 +33,11 @@ backward n i offset h l f = rw (signed-high 8 offset (omega arith) f) (by (ltb i
         let k : suc (2 ^ 64 - 1 - offset) ≤ i = ltb-false _ _ e in
         rw (e, le-ltb (i - suc (2 ^ 64 - 1 - offset)) 0 (omega arith), le-ltb n (i - suc (2 ^ 64 - 1 - offset)) (omega arith))
         (lt-leb i (2 ^ 64 - 1 - offset) (omega arith))
+
+-- a target of 0 to 2^64 - 1 is the sum modulo 2^64
+pub wrapping : (i offset t : ℕ) → offset < 2 ^ 64 → t < 2 ^ 64 → relativeTarget i offset ≡ pos t → (i + offset) % 2 ^ 64 ≡ t
+unfolding relativeTarget wrap
+wrapping i offset t h l e =
+    sym (mod-add-mod i (2 ^ 64) offset)
+    ∙ ap (λ (x : ℕ). (i % 2 ^ 64 + x) % 2 ^ 64) (sym (wrap-signed 8 offset h))
+    ∙ sym (wrap-add 8 (pos i) (signed 8 offset)) ∙ ap (wrap 8) e ∙ mod-eq-of-lt l

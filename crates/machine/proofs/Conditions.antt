@@ -1,0 +1,694 @@
+-- The definitions meet the exact conditions. Assumes nothing.
+use Prim.Native.Nat.{ℕ, zero, suc, _+_, _*_, _-_, _%_, _^_, _<_, _≤_}
+use native.Mathlib.Omega.{arith}
+use mathlib.Core.Path.{_≡_, refl, sym, ap, _∙_}
+use mathlib.Core.Bool.{Bool, true, false, cond, not, _&&_, _||_}
+use mathlib.Core.List.{List, [], _∷_}
+use borrow.Author.Tests.{eqb-true, eqb-false, ltb-true, ltb-false, leb-true, le-leb, lt-leb, ne-eqb, not-false}
+use lib.Dec.{eqb, leb, ltb}
+use lib.ListN.{length, replicate}
+use Rattle.word.specs.Word.{part, valueOf, bytesOf}
+use Rattle.word.proofs.Laws.{part-length, part-bytes, value-lt}
+use Rattle.arithmetic.specs.Result.{lookup, result}
+use Rattle.integer.specs.Operations.{flag, piece, subpiece, intZext}
+use Rattle.arithmetic.specs.Operands.{among, divides}
+use Rattle.integer.proofs.Booleans.{or-false, both, neither}
+use Rattle.operation.specs.declared.layout.Varnode.{Varnode}
+use Rattle.machine.specs.Memory.{Memory, OfBytes, lengthsOf, spaceOf, withSpace, bytesAt, written, valueAt}
+use Rattle.machine.specs.Effect.{Operation, operationAt, Kind, kindOf, moves, dropped, computed, absent, anySecret, secret, guarded, valuesOf, pointed, sources, target, bytesWritten, labelsWritten}
+use Rattle.machine.specs.Run.{Stop, Decision, Position, Stepped, indexOf, goTo, logWord, logging, access, checked, decided, advanced, ended, endingOf, guardedValue, carriedOut, performedAs, performed, stepped, continued, run}
+use Rattle.machine.specs.Conditions.{hasSecret, leaks, pointedBytes, pastItsSpace, taken, branchTaken, outOfBounds, dividesByZero, writesLog, logWordOf, exits, destination, nextIndex, destinationBytes, becomesSecret, valueWritten, positionAfter, told, toldWithin, Words, ExactConditions}
+use Rattle.operation.specs.Rules.{accesses, namesSpace, isDestination, breaksPlace, branches, jumps, relativeTarget}
+use Rattle.operation.specs.Layout.{wordsPerOperation, operationCount, wordAt, offsetAt, describedBy, varnodeAt}
+use Rattle.operation.proofs.Targets.{wrapping}
+use lib.IntN.{pos}
+use Rattle.operation.specs.Shapes.{shapes, rowOf, outputs, inputs, hasPlace}
+use Rattle.validation.specs.WellFormed.{WellFormed}
+use Rattle.validation.specs.Verdict.{mostOperations, mostBytes, lengthsInRange}
+use Rattle.validation.proofs.WellFormed.{verdict-zero}
+use Rattle.operation.specs.declared.layout.Lengths.{Lengths}
+use Rattle.machine.proofs.Plain.{none-secret}
+use Rattle.machine.proofs.Moves.{moved-whole, moved-part, moved-both}
+
+-- ---- secret bytes
+
+public-space : (labels : Memory) (v : Varnode) → spaceOf labels (v .space) ≡ [] → anySecret (bytesAt labels v) ≡ false
+unfolding bytesAt part
+public-space labels v e = rw e (none-secret (v .size) (λ i. 0) (λ i. refl))
+
+constant-space : (labels : Memory) (space : ℕ) → space ≡ 1 → spaceOf labels space ≡ []
+unfolding spaceOf
+constant-space labels space e = rw e refl
+
+has-secret : (labels : Memory) (v : Varnode) → anySecret (bytesAt labels v) ≡ hasSecret labels v
+unfolding hasSecret
+has-secret labels v = by (eqb (v .space) 1) refl
+  where
+    by : (t : Bool) → eqb (v .space) 1 ≡ t → anySecret (bytesAt labels v) ≡ cond t false (anySecret (bytesAt labels v))
+    by true e = public-space labels v (constant-space labels (v .space) (eqb-true (v .space) 1 e))
+    by false e = refl
+
+no-space : (labels : Memory) (v : Varnode) → spaceOf labels (v .space) ≡ [] → hasSecret labels v ≡ false
+no-space labels v e = sym (has-secret labels v) ∙ public-space labels v e
+
+constant-public : (labels : Memory) (v : Varnode) → v .space ≡ 1 → hasSecret labels v ≡ false
+constant-public labels v e = no-space labels v (constant-space labels (v .space) e)
+
+absent-public : (labels : Memory) (v : Varnode) → v ≡ absent → hasSecret labels v ≡ false
+unfolding absent spaceOf
+absent-public labels v e = no-space labels v (rw e refl)
+
+absent-written : (m : Memory) (v : Varnode) (bs : List ℕ) → v ≡ absent → written m v bs ≡ m
+unfolding absent written withSpace
+absent-written m v bs e = rw e refl
+
+one-secret : (labels : Memory) (v : Varnode) → secret labels (v ∷ []) ≡ hasSecret labels v
+unfolding secret
+one-secret labels v = or-false (anySecret (bytesAt labels v)) ∙ has-secret labels v
+
+two-secret : (labels : Memory) (u v : Varnode) → secret labels (u ∷ v ∷ []) ≡ hasSecret labels u || hasSecret labels v
+unfolding secret
+two-secret labels u v = rw (or-false, has-secret labels u, has-secret labels v) refl
+
+-- ---- the bytes written
+
+-- a varnode's value is below 256^size
+value-fits : (big : Bool) (m : Memory) (v : Varnode) → OfBytes m → (v .space ≡ 1 → v .offset < 256 ^ v .size) → valueAt big m v < 256 ^ v .size
+unfolding valueAt bytesAt
+value-fits big m v b h = by (eqb (v .space) 1) refl
+  where
+    by : (t : Bool) → eqb (v .space) 1 ≡ t → cond t (v .offset) (valueOf big (bytesAt m v)) < 256 ^ v .size
+    by true e = h (eqb-true (v .space) 1 e)
+    by false e =
+        let l : length (bytesAt m v) ≡ v .size = part-length (spaceOf m (v .space)) (v .offset) (v .size) in
+        rw l at (value-lt big (bytesAt m v) (part-bytes (spaceOf m (v .space)) (v .offset) (v .size) (b (v .space))))
+
+constant-value : (big : Bool) (m : Memory) (v : Varnode) → v .space ≡ 1 → valueAt big m v ≡ v .offset
+unfolding valueAt
+constant-value big m v e = rw e refl
+
+or-commutes : (s t : Bool) → s || t ≡ t || s
+or-commutes true true = refl
+or-commutes true false = refl
+or-commutes false true = refl
+or-commutes false false = refl
+
+-- the other operations, but for PIECE, SUBPIECE and INT_ZEXT
+calculated : (big : Bool) (op : Operation) (m : Memory) (n : ℕ) → moves op ≡ false
+    → bytesWritten big op n (op .input0 ∷ op .input1 ∷ []) m
+    ≡ bytesOf big n (result (op .opcode) (op .output .size) (op .input0 .size) (op .input1 .size) (valueAt big m (op .input0)) (valueAt big m (op .input1)))
+unfolding bytesWritten computed valuesOf
+calculated big op m n e = rw e refl
+
+-- an opcode is a number k, or it is not
+when : {A : Type 0} (n k : ℕ) → (n ≡ k → A) → (eqb n k ≡ false → A) → A
+when {A} n k same other = by (eqb n k) refl
+  where
+    by : (t : Bool) → eqb n k ≡ t → A
+    by true e = same (eqb-true n k e)
+    by false e = other e
+
+-- ---- opcodes that the conditions do not tell apart
+
+record Class : Type 0 where
+  kind : Kind
+  pointer : Bool
+  condition : Bool
+  indirect : Bool
+  divisor : Bool
+  loads : Bool
+  stores : Bool
+  logs : Bool
+  direct : Bool
+
+classOf : ℕ → Class
+classOf n = record {
+  kind = kindOf n;
+  pointer = among n (2 ∷ 3 ∷ []);
+  condition = eqb n 5;
+  indirect = among n (6 ∷ 8 ∷ 9 ∷ []);
+  divisor = among n (35 ∷ 36 ∷ 37 ∷ 38 ∷ []);
+  loads = eqb n 2;
+  stores = eqb n 3;
+  logs = among n (2 ∷ 3 ∷ 5 ∷ []);
+  direct = among n (4 ∷ 7 ∷ []);
+}
+
+-- a class without any condition
+free : Kind → Class
+free k = record {
+  kind = k;
+  pointer = false;
+  condition = false;
+  indirect = false;
+  divisor = false;
+  loads = false;
+  stores = false;
+  logs = false;
+  direct = false;
+}
+
+divisions : Class
+divisions = record {
+  kind = Kind.divide;
+  pointer = false;
+  condition = false;
+  indirect = false;
+  divisor = true;
+  loads = false;
+  stores = false;
+  logs = false;
+  direct = false;
+}
+
+indirectBranches : Class
+indirectBranches = record {
+  kind = Kind.jump;
+  pointer = false;
+  condition = false;
+  indirect = true;
+  divisor = false;
+  loads = false;
+  stores = false;
+  logs = false;
+  direct = false;
+}
+
+directBranches : Class
+directBranches = record {
+  kind = Kind.branch;
+  pointer = false;
+  condition = false;
+  indirect = false;
+  divisor = false;
+  loads = false;
+  stores = false;
+  logs = false;
+  direct = true;
+}
+
+conditionalBranch : Class
+conditionalBranch = record {
+  kind = Kind.cbranch;
+  pointer = false;
+  condition = true;
+  indirect = false;
+  divisor = false;
+  loads = false;
+  stores = false;
+  logs = true;
+  direct = false;
+}
+
+load : Class
+load = record {
+  kind = Kind.load;
+  pointer = true;
+  condition = false;
+  indirect = false;
+  divisor = false;
+  loads = true;
+  stores = false;
+  logs = true;
+  direct = false;
+}
+
+store : Class
+store = record {
+  kind = Kind.store;
+  pointer = true;
+  condition = false;
+  indirect = false;
+  divisor = false;
+  loads = false;
+  stores = true;
+  logs = true;
+  direct = false;
+}
+
+-- ---- one operation, by its conditions
+
+-- a destination that a well-formed branch at index i can have
+data Destination (i : ℕ) (v : Varnode) : Type 0 where
+  inList : eqb (v .space) 1 ≡ true → eqb (v .space) 4 ≡ false → indexOf (relativeTarget i (v .offset)) ≡ (i + v .offset) % 2 ^ 64 → Destination i v
+  inRam : eqb (v .space) 1 ≡ false → eqb (v .space) 4 ≡ true → Destination i v
+
+-- what is used of a well-formed operation at index i
+record Formed (big : Bool) (m : Memory) (i : ℕ) (op : Operation) : Type 0 where
+  noOutput : hasPlace (op .opcode) 0 ≡ false → op .output ≡ absent
+  noInput1 : hasPlace (op .opcode) 2 ≡ false → op .input1 ≡ absent
+  named : accesses (op .opcode) ≡ true → namesSpace (op .input0) ≡ true
+  constant1 : op .opcode ≡ 11 → op .input1 .space ≡ 1
+  branchTo : branches (op .opcode) ≡ true → Destination i (op .input0)
+  fits0 : branches (op .opcode) ≡ false → valueAt big m (op .input0) < 256 ^ op .input0 .size
+  fits1 : valueAt big m (op .input1) < 256 ^ op .input1 .size
+  fits2 : valueAt big m (op .input2) < 256 ^ op .input2 .size
+
+module _ (big : Bool) (op : Operation) (at : Position) (labels m : Memory) where
+  toldBy : (leak outside byZero due leaves : Bool) (word to next : ℕ) → Varnode → (hidden : Bool) (value : ℕ) → Stepped
+  toldBy leak outside byZero due leaves word to next place hidden value =
+      cond leak (Stepped.halted (ended 31 0 at labels m))
+      (cond outside (Stepped.halted (ended 32 0 at labels m))
+      (cond byZero (Stepped.halted (ended 33 0 at labels m))
+      (cond (due && eqb (at .room) 0) (Stepped.halted (ended 34 0 at labels m))
+      (cond leaves (Stepped.halted (ended 1 to (advanced at (at .index) (cond due (word ∷ []) [])) labels m))
+      (Stepped.going (advanced at next (cond due (word ∷ []) []))
+      (written labels place (replicate (place .size) (flag hidden)))
+      (written m place (bytesOf big (place .size) value)))))))
+
+  told-by : told big op at labels m
+      ≡ toldBy (leaks labels op) (outOfBounds big m op) (dividesByZero big m op) (writesLog op) (exits big m op) (logWordOf big m op (at .index))
+      (destination big m op) (nextIndex big m op (at .index)) (destinationBytes big m op) (becomesSecret big labels m op) (valueWritten big m op)
+  unfolding told toldBy positionAfter
+  told-by = refl
+
+  -- what a kind writes, with x as the value of what must be public, is what is told
+  record Writes (k : Kind) (x : ℕ) (place : Varnode) (hidden : Bool) (value : ℕ) : Type 0 where
+    labelled : written labels (target k op x) (labelsWritten (target k op x .size) (sources k op x) labels)
+        ≡ written labels place (replicate (place .size) (flag hidden))
+    stored : written m (target k op x) (bytesWritten big op (target k op x .size) (sources k op x) m)
+        ≡ written m place (bytesOf big (place .size) value)
+
+  goes : (k : Kind) (x i : ℕ) (words : List ℕ) {place : Varnode} {hidden : Bool} {value : ℕ} → Writes k x place hidden value
+      → carriedOut big k op at labels m x (Decision.next words i)
+      ≡ Stepped.going (advanced at i words) (written labels place (replicate (place .size) (flag hidden))) (written m place (bytesOf big (place .size) value))
+  unfolding carriedOut
+  goes k x i words w = rw (w .labelled, w .stored) refl
+
+  writes : (k : Kind) (x : ℕ) (place : Varnode) (hidden : Bool) (value : ℕ) → target k op x ≡ place → secret labels (sources k op x) ≡ hidden
+      → bytesWritten big op (place .size) (sources k op x) m ≡ bytesOf big (place .size) value → Writes k x place hidden value
+  unfolding labelsWritten
+  writes k x place hidden value e f g = record { labelled = rw (e, f) refl; stored = rw (e, g) refl }
+
+  module _ (word to next : ℕ) (place : Varnode) (hidden : Bool) (value : ℕ) where
+    -- a kind with nothing that must be public, and nothing to check
+    unchecked : (k : Kind) → guarded k op ≡ [] → ((i extent room x : ℕ) → checked k op i extent room x ≡ Decision.next [] (suc i))
+        → next ≡ suc (at .index) → Writes k 0 place hidden value
+        → performedAs big k op at labels m ≡ toldBy false false false false false word to next place hidden value
+    unfolding performedAs decided guardedValue valuesOf secret toldBy
+    unchecked k e f n w = rw (e, f, n) (goes k 0 (suc (at .index)) [] w)
+
+    jumped : to ≡ valueAt big m (op .input0)
+        → performedAs big Kind.jump op at labels m ≡ toldBy (hasSecret labels (op .input0)) false false false true word to next place hidden value
+    unfolding performedAs guarded guardedValue valuesOf toldBy carriedOut decided checked endingOf
+    jumped e = rw (one-secret labels (op .input0), ← e) (by (hasSecret labels (op .input0)))
+      where
+        by : (t : Bool) → carriedOut big Kind.jump op at labels m to (cond t (Decision.stop Stop.leak) (Decision.exit [] to))
+            ≡ toldBy t false false false true word to next place hidden value
+        by true = refl
+        by false = refl
+
+    divided : next ≡ suc (at .index) → (hasSecret labels (op .input1) ≡ false → Writes Kind.divide (valueAt big m (op .input1)) place hidden value)
+        → performedAs big Kind.divide op at labels m
+        ≡ toldBy (hasSecret labels (op .input1)) false (eqb (valueAt big m (op .input1)) 0) false false word to next place hidden value
+    unfolding performedAs guarded guardedValue valuesOf toldBy carriedOut decided checked endingOf
+    divided n w = rw (one-secret labels (op .input1), n) (by (hasSecret labels (op .input1)) refl (eqb (valueAt big m (op .input1)) 0))
+      where
+        by : (t : Bool) → hasSecret labels (op .input1) ≡ t → (z : Bool)
+            → carriedOut big Kind.divide op at labels m (valueAt big m (op .input1))
+            (cond t (Decision.stop Stop.leak) (cond z (Decision.stop Stop.zeroDivisor) (Decision.next [] (suc (at .index)))))
+            ≡ toldBy t false z false false word to (suc (at .index)) place hidden value
+        by true e z = refl
+        by false e true = refl
+        by false e false = goes Kind.divide (valueAt big m (op .input1)) (suc (at .index)) [] (w e)
+
+    -- LOAD and STORE
+    accessed : (k : Kind) (size : ℕ) → guarded k op ≡ op .input1 ∷ []
+        → ((i extent room x : ℕ) → checked k op i extent room x ≡ access i extent room x size)
+        → next ≡ suc (at .index) → word ≡ logWord (at .index) (valueAt big m (op .input1))
+        → (hasSecret labels (op .input1) ≡ false → Writes k (valueAt big m (op .input1)) place hidden value)
+        → performedAs big k op at labels m
+        ≡ toldBy (hasSecret labels (op .input1)) (not (leb (valueAt big m (op .input1) + size) (length (spaceOf m (op .input0 .offset))))) false true false
+        word to next place hidden value
+    unfolding performedAs guardedValue valuesOf toldBy carriedOut decided access logging endingOf
+    accessed k size g c n l w =
+        rw (g, c, one-secret labels (op .input1), n, l)
+        (by (hasSecret labels (op .input1)) refl (leb (valueAt big m (op .input1) + size) (length (spaceOf m (op .input0 .offset)))) (eqb (at .room) 0))
+      where
+        written-word : ℕ
+        written-word = logWord (at .index) (valueAt big m (op .input1))
+
+        by : (t : Bool) → hasSecret labels (op .input1) ≡ t → (u z : Bool)
+            → carriedOut big k op at labels m (valueAt big m (op .input1))
+            (cond t (Decision.stop Stop.leak) (cond u (cond z (Decision.stop Stop.logFull) (Decision.next (written-word ∷ []) (suc (at .index)))) (Decision.stop Stop.bounds)))
+            ≡ cond t (Stepped.halted (ended 31 0 at labels m))
+            (cond (not u) (Stepped.halted (ended 32 0 at labels m))
+            (cond z (Stepped.halted (ended 34 0 at labels m))
+            (Stepped.going (advanced at (suc (at .index)) (written-word ∷ []))
+            (written labels place (replicate (place .size) (flag hidden)))
+            (written m place (bytesOf big (place .size) value)))))
+        by true e u z = refl
+        by false e false z = refl
+        by false e true true = refl
+        by false e true false = goes k (valueAt big m (op .input1)) (suc (at .index)) (written-word ∷ []) (w e)
+
+    -- BRANCH, CALL and CBRANCH write nothing
+    module _ (k : Kind) (x : ℕ) (nothing : target k op x ≡ absent) (e : place ≡ absent) where
+      writes-nothing : Writes k x place hidden value
+      writes-nothing = record {
+        labelled = absent-written labels (target k op x) _ nothing ∙ sym (absent-written labels place _ e);
+        stored = absent-written m (target k op x) _ nothing ∙ sym (absent-written m place _ e);
+      }
+
+      gone : (words : List ℕ) → Destination (at .index) (op .input0)
+          → carriedOut big k op at labels m x (goTo (at .index) (op .input0) words)
+          ≡ cond (eqb (op .input0 .space) 4) (Stepped.halted (ended 1 (op .input0 .offset) (advanced at (at .index) words) labels m))
+          (Stepped.going (advanced at (cond (eqb (op .input0 .space) 1) ((at .index + op .input0 .offset) % 2 ^ 64) (suc (at .index))) words)
+          (written labels place (replicate (place .size) (flag hidden))) (written m place (bytesOf big (place .size) value)))
+      unfolding goTo carriedOut
+      gone words (inList s f l) = rw (s, f, l) (goes k x ((at .index + op .input0 .offset) % 2 ^ 64) words writes-nothing)
+      gone words (inRam s f) = rw (s, f) refl
+
+    branched : to ≡ op .input0 .offset → next ≡ cond (eqb (op .input0 .space) 1) ((at .index + op .input0 .offset) % 2 ^ 64) (suc (at .index))
+        → place ≡ absent → Destination (at .index) (op .input0)
+        → performedAs big Kind.branch op at labels m ≡ toldBy false false false false (eqb (op .input0 .space) 4) word to next place hidden value
+    unfolding performedAs guarded guardedValue valuesOf secret decided checked toldBy target
+    branched t n e d = rw (t, n) (gone Kind.branch 0 refl e [] d)
+
+    cbranched : word ≡ logWord (at .index) (flag (not (eqb (valueAt big m (op .input1)) 0))) → to ≡ op .input0 .offset
+        → next ≡ cond (not (eqb (valueAt big m (op .input1)) 0) && eqb (op .input0 .space) 1) ((at .index + op .input0 .offset) % 2 ^ 64) (suc (at .index))
+        → place ≡ absent → Destination (at .index) (op .input0)
+        → performedAs big Kind.cbranch op at labels m
+        ≡ toldBy (hasSecret labels (op .input1)) false false true (not (eqb (valueAt big m (op .input1)) 0) && eqb (op .input0 .space) 4) word to next place hidden value
+    unfolding performedAs guarded guardedValue valuesOf decided checked carriedOut toldBy target logging flag endingOf
+    cbranched l t n e d =
+        rw (one-secret labels (op .input1), l, t, n) (by (hasSecret labels (op .input1)) (eqb (valueAt big m (op .input1)) 0) (eqb (at .room) 0))
+      where
+        by : (t z f : Bool)
+            → carriedOut big Kind.cbranch op at labels m (valueAt big m (op .input1))
+            (cond t (Decision.stop Stop.leak)
+            (cond z (cond f (Decision.stop Stop.logFull) (Decision.next (logWord (at .index) 0 ∷ []) (suc (at .index))))
+            (cond f (Decision.stop Stop.logFull) (goTo (at .index) (op .input0) (logWord (at .index) 1 ∷ [])))))
+            ≡ cond t (Stepped.halted (ended 31 0 at labels m))
+            (cond f (Stepped.halted (ended 34 0 at labels m))
+            (cond (not z && eqb (op .input0 .space) 4)
+            (Stepped.halted (ended 1 (op .input0 .offset) (advanced at (at .index) (logWord (at .index) (flag (not z)) ∷ [])) labels m))
+            (Stepped.going
+            (advanced at (cond (not z && eqb (op .input0 .space) 1) ((at .index + op .input0 .offset) % 2 ^ 64) (suc (at .index))) (logWord (at .index) (flag (not z)) ∷ []))
+            (written labels place (replicate (place .size) (flag hidden)))
+            (written m place (bytesOf big (place .size) value)))))
+        by true z f = refl
+        by false true true = refl
+        by false false true = refl
+        by false true false =
+            goes Kind.cbranch (valueAt big m (op .input1)) (suc (at .index)) (logWord (at .index) 0 ∷ [])
+            (writes-nothing Kind.cbranch (valueAt big m (op .input1)) refl e)
+        by false false false = gone Kind.cbranch (valueAt big m (op .input1)) refl e (logWord (at .index) 1 ∷ []) d
+
+  toldAs : Class → Stepped
+  toldAs c =
+      let s0 : Bool = hasSecret labels (op .input0) in
+      let s1 : Bool = hasSecret labels (op .input1) in
+      let x : ℕ = valueAt big m (op .input1) in
+      toldBy
+      ((c .pointer && s1) || (c .condition && s1) || (c .indirect && s0) || (c .divisor && s1))
+      ((c .loads && pastItsSpace m (pointedBytes big m op (op .output .size))) || (c .stores && pastItsSpace m (pointedBytes big m op (op .input2 .size))))
+      (c .divisor && eqb x 0)
+      (c .logs)
+      (((c .direct || (c .condition && not (eqb x 0))) && eqb (op .input0 .space) 4) || c .indirect)
+      (at .index * 2 ^ 32 + cond (c .condition) (flag (c .condition && not (eqb x 0))) x)
+      (cond (c .indirect) (valueAt big m (op .input0)) (op .input0 .offset))
+      (cond ((c .direct || (c .condition && not (eqb x 0))) && eqb (op .input0 .space) 1) ((at .index + op .input0 .offset) % 2 ^ 64) (suc (at .index)))
+      (cond (c .stores) (pointedBytes big m op (op .input2 .size)) (op .output))
+      (cond (c .stores) (hasSecret labels (op .input2)) (s0 || s1 || (c .loads && hasSecret labels (pointedBytes big m op (op .output .size)))))
+      (valueWritten big m op)
+
+  told-as : (c : Class) → classOf (op .opcode) ≡ c → performedAs big (c .kind) op at labels m ≡ toldAs c → performed big op at labels m ≡ told big op at labels m
+  unfolding classOf toldAs performed leaks outOfBounds dividesByZero writesLog exits taken branchTaken logWordOf destination nextIndex destinationBytes becomesSecret
+  told-as c e h =
+      ap (λ (d : Class). performedAs big (d .kind) op at labels m) e ∙ h ∙ sym (ap toldAs e) ∙ sym told-by
+
+  -- ---- one operation, by its class
+
+  module _ (b : OfBytes m) (f : Formed big m (at .index) op) where
+    abbrev Meets : Type 0
+    Meets = performed big op at labels m ≡ told big op at labels m
+
+    unread-input1 : hasSecret labels (op .input1) ≡ false
+        → secret labels (op .input0 ∷ []) ≡ hasSecret labels (op .input0) || hasSecret labels (op .input1) || false
+    unread-input1 e = one-secret labels (op .input0) ∙ rw e (sym (or-false _ ∙ or-false _))
+
+    meets-copy : classOf (op .opcode) ≡ free Kind.copy → hasPlace (op .opcode) 2 ≡ false
+        → bytesWritten big op (op .output .size) (op .input0 ∷ []) m ≡ bytesOf big (op .output .size) (valueWritten big m op) → Meets
+    unfolding free toldAs guarded checked target sources
+    meets-copy c p e =
+        told-as (free Kind.copy) c
+        (unchecked _ _ _ _ _ _ Kind.copy refl (λ i extent room x. refl) refl
+        (writes Kind.copy 0 _ _ _ refl (unread-input1 (absent-public labels (op .input1) (f .noInput1 p))) e))
+
+    meets-subpiece : classOf (op .opcode) ≡ free Kind.subpiece → op .input1 .space ≡ 1
+        → bytesWritten big op (op .output .size) (op .input0 ∷ []) m ≡ bytesOf big (op .output .size) (valueWritten big m op) → Meets
+    unfolding free toldAs guarded checked target sources
+    meets-subpiece c p e =
+        told-as (free Kind.subpiece) c
+        (unchecked _ _ _ _ _ _ Kind.subpiece refl (λ i extent room x. refl) refl
+        (writes Kind.subpiece 0 _ _ _ refl (unread-input1 (constant-public labels (op .input1) p)) e))
+
+    meets-piece : classOf (op .opcode) ≡ free Kind.piece
+        → bytesWritten big op (op .output .size) (op .input1 ∷ op .input0 ∷ []) m ≡ bytesOf big (op .output .size) (valueWritten big m op) → Meets
+    unfolding free toldAs guarded checked target sources
+    meets-piece c e =
+        told-as (free Kind.piece) c
+        (unchecked _ _ _ _ _ _ Kind.piece refl (λ i extent room x. refl) refl
+        (writes Kind.piece 0 _ _ _ refl
+        (two-secret labels (op .input1) (op .input0) ∙ or-commutes (hasSecret labels (op .input1)) (hasSecret labels (op .input0)) ∙ sym (or-false _)) e))
+
+    both-read : secret labels (op .input0 ∷ op .input1 ∷ []) ≡ hasSecret labels (op .input0) || hasSecret labels (op .input1) || false
+    both-read = two-secret labels (op .input0) (op .input1) ∙ sym (or-false _)
+
+    meets-compute : classOf (op .opcode) ≡ free Kind.compute
+        → bytesWritten big op (op .output .size) (op .input0 ∷ op .input1 ∷ []) m ≡ bytesOf big (op .output .size) (valueWritten big m op) → Meets
+    unfolding free toldAs guarded checked target sources
+    meets-compute c e =
+        told-as (free Kind.compute) c
+        (unchecked _ _ _ _ _ _ Kind.compute refl (λ i extent room x. refl) refl (writes Kind.compute 0 _ _ _ refl both-read e))
+
+    meets-divide : classOf (op .opcode) ≡ divisions
+        → bytesWritten big op (op .output .size) (op .input0 ∷ op .input1 ∷ []) m ≡ bytesOf big (op .output .size) (valueWritten big m op) → Meets
+    unfolding divisions toldAs target sources
+    meets-divide c e = told-as divisions c (divided _ _ _ _ _ _ refl (λ p. writes Kind.divide _ _ _ _ refl both-read e))
+
+    meets-jump : classOf (op .opcode) ≡ indirectBranches → Meets
+    unfolding indirectBranches toldAs
+    meets-jump c = told-as indirectBranches c (rw (or-false (hasSecret labels (op .input0))) (jumped _ _ _ _ _ _ refl))
+
+    meets-branch : classOf (op .opcode) ≡ directBranches → op .output ≡ absent → Destination (at .index) (op .input0) → Meets
+    unfolding directBranches toldAs
+    meets-branch c e d = told-as directBranches c (rw (or-false (eqb (op .input0 .space) 4)) (branched _ _ _ _ _ _ refl refl e d))
+
+    meets-cbranch : classOf (op .opcode) ≡ conditionalBranch → op .output ≡ absent → Destination (at .index) (op .input0) → Meets
+    unfolding conditionalBranch toldAs logWord
+    meets-cbranch c e d =
+        told-as conditionalBranch c
+        (rw (or-false (hasSecret labels (op .input1)), or-false (hasSecret labels (op .input1)), or-false (not (eqb (valueAt big m (op .input1)) 0) && eqb (op .input0 .space) 4))
+        (cbranched _ _ _ _ _ _ refl refl refl e d))
+
+    pointed-fits : accesses (op .opcode) ≡ true → (size : ℕ) → valueAt big m (pointedBytes big m op size) < 256 ^ size
+    unfolding pointedBytes namesSpace
+    pointed-fits a size =
+        let n = both (eqb (op .input0 .space) 1 && leb 2 (op .input0 .offset)) (leb (op .input0 .offset) 4) (f .named a) in
+        let l = both (eqb (op .input0 .space) 1) (leb 2 (op .input0 .offset)) (n .0) in
+        value-fits big m (pointedBytes big m op size) b
+        (λ e. let k : 2 ≤ op .input0 .offset = leb-true 2 (op .input0 .offset) (l .1) in absurd (let z : ⊥ = omega arith in z))
+
+    meets-load : classOf (op .opcode) ≡ load → op .input0 .space ≡ 1
+        → bytesWritten big op (op .output .size) (pointedBytes big m op (op .output .size) ∷ []) m ≡ bytesOf big (op .output .size) (valueWritten big m op) → Meets
+    unfolding load toldAs guarded checked target sources pointed pointedBytes pastItsSpace logWord
+    meets-load c s e =
+        told-as load c
+        (rw (
+          or-false (hasSecret labels (op .input1)),
+          or-false (hasSecret labels (op .input1)),
+          or-false (hasSecret labels (op .input1)),
+          or-false (not (leb (valueAt big m (op .input1) + op .output .size) (length (spaceOf m (op .input0 .offset))))),
+        )
+        (accessed _ _ _ _ _ _ Kind.load (op .output .size) refl (λ i extent room x. refl) refl refl
+        (λ p. writes Kind.load _ _ _ _ refl (one-secret labels (pointedBytes big m op (op .output .size)) ∙ rw (p, constant-public labels (op .input0) s) refl) e)))
+
+    meets-store : classOf (op .opcode) ≡ store
+        → bytesWritten big op (op .input2 .size) (op .input2 ∷ []) m ≡ bytesOf big (op .input2 .size) (valueWritten big m op) → Meets
+    unfolding store toldAs guarded checked target sources pointed pointedBytes pastItsSpace logWord
+    meets-store c e =
+        told-as store c
+        (rw (or-false (hasSecret labels (op .input1)), or-false (hasSecret labels (op .input1)), or-false (hasSecret labels (op .input1)))
+        (accessed _ _ _ _ _ _ Kind.store (op .input2 .size) refl (λ i extent room x. refl) refl refl
+        (λ p. writes Kind.store _ _ _ _ refl (one-secret labels (op .input2)) e)))
+
+    -- ---- one operation, by its opcode
+
+    bytes-copy : op .opcode ≡ 1 → bytesWritten big op (op .output .size) (op .input0 ∷ []) m ≡ bytesOf big (op .output .size) (valueWritten big m op)
+    unfolding valueWritten moves dropped among branches
+    bytes-copy e = moved-whole big op m (op .input0) (op .output .size) (rw e refl) (rw e refl) b (f .fits0 (rw e refl)) ∙ rw e refl
+
+    bytes-zext : op .opcode ≡ 19 → bytesWritten big op (op .output .size) (op .input0 ∷ []) m ≡ bytesOf big (op .output .size) (valueWritten big m op)
+    unfolding valueWritten result lookup intZext moves dropped among branches
+    bytes-zext e = moved-whole big op m (op .input0) (op .output .size) (rw e refl) (rw e refl) b (f .fits0 (rw e refl)) ∙ rw e refl
+
+    bytes-load : op .opcode ≡ 2
+        → bytesWritten big op (op .output .size) (pointedBytes big m op (op .output .size) ∷ []) m ≡ bytesOf big (op .output .size) (valueWritten big m op)
+    unfolding valueWritten moves dropped among accesses pointedBytes
+    bytes-load e =
+        moved-whole big op m (pointedBytes big m op (op .output .size)) (op .output .size) (rw e refl) (rw e refl) b (pointed-fits (rw e refl) (op .output .size)) ∙ rw e refl
+
+    bytes-store : op .opcode ≡ 3 → bytesWritten big op (op .input2 .size) (op .input2 ∷ []) m ≡ bytesOf big (op .input2 .size) (valueWritten big m op)
+    unfolding valueWritten moves dropped among
+    bytes-store e = moved-whole big op m (op .input2) (op .input2 .size) (rw e refl) (rw e refl) b (f .fits2) ∙ rw e refl
+
+    bytes-computed : moves op ≡ false
+        → bytesWritten big op (op .output .size) (op .input0 ∷ op .input1 ∷ []) m ≡ bytesOf big (op .output .size) (valueWritten big m op)
+    unfolding valueWritten moves among
+    bytes-computed e =
+        calculated big op m (op .output .size) e
+        ∙ (let n1 = neither (eqb (op .opcode) 1) (among (op .opcode) (2 ∷ 3 ∷ 10 ∷ 11 ∷ 19 ∷ [])) e in
+        let n2 = neither (eqb (op .opcode) 2) (among (op .opcode) (3 ∷ 10 ∷ 11 ∷ 19 ∷ [])) (n1 .1) in
+        let n3 = neither (eqb (op .opcode) 3) (among (op .opcode) (10 ∷ 11 ∷ 19 ∷ [])) (n2 .1) in
+        rw (n1 .0, n2 .0, n3 .0) refl)
+
+    bytes-piece : op .opcode ≡ 10
+        → bytesWritten big op (op .output .size) (op .input1 ∷ op .input0 ∷ []) m ≡ bytesOf big (op .output .size) (valueWritten big m op)
+    unfolding valueWritten result lookup piece moves dropped among branches
+    bytes-piece e =
+        moved-both big op m (op .input0) (op .input1) (op .output .size) (rw e refl) (rw e refl) b (f .fits0 (rw e refl)) (f .fits1) ∙ rw e refl
+
+    bytes-subpiece : op .opcode ≡ 11 → bytesWritten big op (op .output .size) (op .input0 ∷ []) m ≡ bytesOf big (op .output .size) (valueWritten big m op)
+    unfolding valueWritten result lookup subpiece moves dropped among branches
+    bytes-subpiece e =
+        moved-part big op m (op .input0) (op .input1 .offset) (op .output .size) (rw e refl) (rw e refl) b (f .fits0 (rw e refl))
+        ∙ ap (λ (k : ℕ). bytesOf big (op .output .size) (subpiece (op .output .size) (valueAt big m (op .input0)) k)) (sym (constant-value big m (op .input1) (f .constant1 e)))
+        ∙ rw e refl
+
+    names-a-space : accesses (op .opcode) ≡ true → op .input0 .space ≡ 1
+    unfolding namesSpace
+    names-a-space a =
+        let n = both (eqb (op .input0 .space) 1 && leb 2 (op .input0 .offset)) (leb (op .input0 .offset) 4) (f .named a) in
+        eqb-true (op .input0 .space) 1 (both (eqb (op .input0 .space) 1) (leb 2 (op .input0 .offset)) (n .0) .0)
+
+    no-division : (n : ℕ) → eqb n 35 ≡ false → eqb n 36 ≡ false → eqb n 37 ≡ false → eqb n 38 ≡ false → divides n ≡ false
+    unfolding divides
+    no-division n f5 f6 f7 f8 = by (leb 35 n && leb n 38) refl
+      where
+        by : (t : Bool) → leb 35 n && leb n 38 ≡ t → t ≡ false
+        by true e =
+            let d = both (leb 35 n) (leb n 38) e in
+            let low : 35 ≤ n = leb-true 35 n (d .0) in
+            let high : n ≤ 38 = leb-true n 38 (d .1) in
+            let n5 : n ≡ 35 → ⊥ = eqb-false n 35 f5 in
+            let n6 : n ≡ 36 → ⊥ = eqb-false n 36 f6 in
+            let n7 : n ≡ 37 → ⊥ = eqb-false n 37 f7 in
+            let n8 : n ≡ 38 → ⊥ = eqb-false n 38 f8 in
+            absurd (let z : ⊥ = omega arith in z)
+        by false e = refl
+
+    meets : Meets
+    unfolding classOf kindOf branches jumps divides accesses among moves hasPlace outputs inputs rowOf shapes free divisions indirectBranches directBranches conditionalBranch load store
+    meets =
+        when (op .opcode) 1 (λ e. meets-copy (ap classOf e) (rw e refl) (bytes-copy e)) (λ n1.
+        when (op .opcode) 2 (λ e. meets-load (ap classOf e) (names-a-space (rw e refl)) (bytes-load e)) (λ n2.
+        when (op .opcode) 3 (λ e. meets-store (ap classOf e) (bytes-store e)) (λ n3.
+        when (op .opcode) 4 (λ e. meets-branch (ap classOf e) (f .noOutput (rw e refl)) (f .branchTo (rw e refl))) (λ n4.
+        when (op .opcode) 5 (λ e. meets-cbranch (ap classOf e) (f .noOutput (rw e refl)) (f .branchTo (rw e refl))) (λ n5.
+        when (op .opcode) 6 (λ e. meets-jump (ap classOf e)) (λ n6.
+        when (op .opcode) 7 (λ e. meets-branch (ap classOf e) (f .noOutput (rw e refl)) (f .branchTo (rw e refl))) (λ n7.
+        when (op .opcode) 8 (λ e. meets-jump (ap classOf e)) (λ n8.
+        when (op .opcode) 9 (λ e. meets-jump (ap classOf e)) (λ n9.
+        when (op .opcode) 10 (λ e. meets-piece (ap classOf e) (bytes-piece e)) (λ n10.
+        when (op .opcode) 11 (λ e. meets-subpiece (ap classOf e) (f .constant1 e) (bytes-subpiece e)) (λ n11.
+        when (op .opcode) 19 (λ e. meets-copy (ap classOf e) (rw e refl) (bytes-zext e)) (λ n19.
+        when (op .opcode) 35 (λ e. meets-divide (ap classOf e) (bytes-computed (rw e refl))) (λ n35.
+        when (op .opcode) 36 (λ e. meets-divide (ap classOf e) (bytes-computed (rw e refl))) (λ n36.
+        when (op .opcode) 37 (λ e. meets-divide (ap classOf e) (bytes-computed (rw e refl))) (λ n37.
+        when (op .opcode) 38 (λ e. meets-divide (ap classOf e) (bytes-computed (rw e refl))) (λ n38.
+        meets-compute (rw (no-division (op .opcode) n35 n36 n37 n38, n1, n2, n3, n4, n5, n6, n7, n8, n9, n10, n11, n19, n35, n36, n37, n38) refl) (bytes-computed (rw (n1, n2, n3, n10, n11, n19) refl))))))))))))))))))
+
+-- ---- a well-formed operation
+
+-- where a branch of a well-formed operation goes
+destination-of : (i n : ℕ) (v : Varnode) → isDestination v ≡ true → v .offset < 2 ^ 64 → n < 2 ^ 64
+    → (v .space ≡ 1 → (t : ℕ) × (t ≤ n) × (relativeTarget i (v .offset) ≡ pos t)) → Destination i v
+unfolding isDestination indexOf
+destination-of i n v d l small h = by (eqb (v .space) 1) refl
+  where
+    by : (t : Bool) → eqb (v .space) 1 ≡ t → Destination i v
+    by true e =
+        let s : v .space ≡ 1 = eqb-true (v .space) 1 e in
+        let r = h s in
+        let k : r .0 < 2 ^ 64 = omega (arith, r .1) in
+        inList e (rw s refl) (ap indexOf (r .2) ∙ sym (wrapping i (v .offset) (r .0) l k (r .2)))
+    by false e = let q : false || eqb (v .space) 4 ≡ true = rw e at d in inRam e q
+
+-- rule 23, of a varnode at input0's or input1's place
+module _ (opcode : ℕ) (v : Varnode) where
+  names : breaksPlace opcode 1 v ≡ false → accesses opcode ≡ true → namesSpace v ≡ true
+  unfolding breaksPlace
+  names p e = not-false (namesSpace v) (rw e at p)
+
+  leads : breaksPlace opcode 1 v ≡ false → branches opcode ≡ true → isDestination v ≡ true
+  unfolding breaksPlace isDestination namesSpace
+  leads p e = by (accesses opcode) refl
+    where
+      by : (t : Bool) → accesses opcode ≡ t → isDestination v ≡ true
+      by true a =
+          let n = both (eqb (v .space) 1 && leb 2 (v .offset)) (leb (v .offset) 4) (names p a) in
+          rw (both (eqb (v .space) 1) (leb 2 (v .offset)) (n .0) .0) refl
+      by false a = not-false (isDestination v) (rw (a, e) at p)
+
+  is-constant : breaksPlace opcode 2 v ≡ false → opcode ≡ 11 → v .space ≡ 1
+  unfolding breaksPlace
+  is-constant p e = eqb-true (v .space) 1 (not-false (eqb (v .space) 1) (rw e at p))
+
+module _ (big : Bool) (addressSize : ℕ) (list : List ℕ) (i : ℕ) (m : Memory) (words : Words list) (b : OfBytes m)
+    (small : operationCount list < 2 ^ 64) (w : WellFormed addressSize (lengthsOf m) list i) where
+  formed : Formed big m i (operationAt list i)
+  unfolding operationAt absent varnodeAt describedBy offsetAt wordAt
+  formed = record {
+    noOutput = λ e. w .absent 0 (omega arith) e;
+    noInput1 = λ e. w .absent 2 (omega arith) e;
+    named = λ e. names _ _ (w .placed 1 (omega arith)) e;
+    constant1 = λ e. is-constant _ _ (w .placed 2 (omega arith)) e;
+    branchTo = λ e. destination-of i (operationCount list) (varnodeAt list i 1) (leads _ _ (w .placed 1 (omega arith)) e) (words _) small (λ s. w .target e s);
+    fits0 = λ e. value-fits big m (varnodeAt list i 1) b (w .constant 1 (omega arith) (λ k. e));
+    fits1 = value-fits big m (varnodeAt list i 2) b (w .constant 2 (omega arith) (λ k. absurd (let z : ⊥ = omega arith in z)));
+    fits2 = value-fits big m (varnodeAt list i 3) b (w .constant 3 (omega arith) (λ k. absurd (let z : ⊥ = omega arith in z)));
+  }
+
+-- ---- the run
+
+few-operations : (lengths : Lengths) (list : List ℕ) → lengthsInRange lengths list ≡ true → operationCount list < 2 ^ 64
+unfolding lengthsInRange
+few-operations lengths list e =
+    let a = both _ (leb (lengths .ram) mostBytes) e in
+    let c = both _ (leb (lengths .register) mostBytes) (a .0) in
+    let d = both _ (leb (lengths .unique) mostBytes) (c .0) in
+    let n : operationCount list ≤ mostOperations = leb-true (operationCount list) mostOperations (both (eqb (length list % wordsPerOperation) 0) _ (d .0) .1) in
+    omega arith
+
+-- at n, END
+at-end : (big : Bool) (list : List ℕ) (budget : ℕ) (at : Position) (labels m : Memory) → ltb (at .index) (operationCount list) ≡ false
+    → run big list budget at labels m ≡ continued (run big list (budget - 1)) (toldWithin big list budget at labels m)
+unfolding run stepped toldWithin continued
+at-end big list zero at labels m e = rw (e, le-leb (operationCount list) (at .index) (ltb-false (at .index) (operationCount list) e)) refl
+at-end big list (suc budget) at labels m e = rw (e, le-leb (operationCount list) (at .index) (ltb-false (at .index) (operationCount list) e)) refl
+
+-- before n, BUDGET or the operation
+at-operation : (big : Bool) (list : List ℕ) (budget : ℕ) (at : Position) (labels m : Memory) → ltb (at .index) (operationCount list) ≡ true
+    → performed big (operationAt list (at .index)) at labels m ≡ told big (operationAt list (at .index)) at labels m
+    → run big list budget at labels m ≡ continued (run big list (budget - 1)) (toldWithin big list budget at labels m)
+unfolding run stepped toldWithin continued
+at-operation big list zero at labels m e h = rw (e, lt-leb (operationCount list) (at .index) (ltb-true (at .index) (operationCount list) e)) refl
+at-operation big list (suc budget) at labels m e h =
+    let less : suc budget - 1 ≡ budget = omega arith in
+    rw (e, lt-leb (operationCount list) (at .index) (ltb-true (at .index) (operationCount list) e), h, less, ne-eqb (suc budget) 0 (λ z. absurd (omega arith))) refl
+
+pub exact-conditions : ExactConditions
+exact-conditions settings list budget at labels m words b v = by (ltb (at .index) (operationCount list)) refl
+  where
+    by : (t : Bool) → ltb (at .index) (operationCount list) ≡ t
+        → run (eqb (settings .order) 1) list budget at labels m
+        ≡ continued (run (eqb (settings .order) 1) list (budget - 1)) (toldWithin (eqb (settings .order) 1) list budget at labels m)
+    by true e =
+        let z = verdict-zero settings (lengthsOf m) list v in
+        at-operation (eqb (settings .order) 1) list budget at labels m e
+        (meets (eqb (settings .order) 1) (operationAt list (at .index)) at labels m b
+        (formed (eqb (settings .order) 1) (settings .«address_size») list (at .index) m words b (few-operations (lengthsOf m) list (z .1))
+        (z .2 (at .index) (ltb-true (at .index) (operationCount list) e))))
+    by false e = at-end (eqb (settings .order) 1) list budget at labels m e
