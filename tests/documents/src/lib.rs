@@ -5,5 +5,8 @@ pub mod declared;
 pub mod links;
 pub mod machine;
 pub mod markdown;
+pub mod promises;
+mod references;
 pub mod repository;
+mod tables;
 pub mod trace;

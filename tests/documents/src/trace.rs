@@ -1,9 +1,9 @@
 //! The trace: a table that leads from each sentence of the papers to the definition, the promise and
 //! the test that stand for it. Each of its references must lead to a declaration that is there.
 
-use crate::declared::declares;
-use crate::markdown::{cells, lines_outside_fences, take_apart};
+use crate::references::{is_edit, problems_of_reference, references};
 use crate::repository::Repository;
+use crate::tables::{rows, Kind};
 use std::collections::BTreeSet;
 
 const DOCUMENT: &str = "docs/TRACE.md";
@@ -15,7 +15,7 @@ pub fn problems(repository: &Repository) -> Vec<String> {
     };
     let mut problems = Vec::new();
     let mut named = BTreeSet::new();
-    let rows = rows(text, &mut problems);
+    let rows = rows(&Kind { document: DOCUMENT, header: HEADER }, text, &mut problems);
     if rows.is_empty() {
         problems
             .push(format!("{DOCUMENT}: it has no row under the header | {} |", HEADER.join(" | ")));
@@ -31,48 +31,6 @@ pub fn problems(repository: &Repository) -> Vec<String> {
             .push(format!("{DOCUMENT}: no row names {edit}, which guards a rule of the papers"));
     }
     problems
-}
-
-/// A row of a table: its line number and its cells.
-type Row = (usize, Vec<String>);
-
-/// The rows below each header of the trace.
-fn rows(text: &str, problems: &mut Vec<String>) -> Vec<Row> {
-    let mut rows = Vec::new();
-    let mut table = Vec::new();
-    for (number, line) in lines_outside_fences(text) {
-        if line.trim_start().starts_with('|') {
-            table.push((number, cells(line).unwrap_or_default()));
-        } else {
-            rows.extend(rows_of_table(std::mem::take(&mut table), problems));
-        }
-    }
-    rows.extend(rows_of_table(table, problems));
-    rows
-}
-
-/// The rows of one table, without its header and the line of dashes; none of a table that is no trace.
-fn rows_of_table(table: Vec<Row>, problems: &mut Vec<String>) -> Vec<Row> {
-    let Some((number, header)) = table.first() else {
-        return Vec::new();
-    };
-    // rows after an empty line have no header, and a slip in a header would leave its table unchecked
-    if !table.get(1).is_some_and(|(_, cells)| are_dashes(cells)) {
-        problems.push(format!(
-            "{DOCUMENT}:{number}: a header and a line of dashes must start the table"
-        ));
-    } else if *header == HEADER {
-        return table.into_iter().skip(2).collect();
-    } else if header.first().is_some_and(|cell| cell == HEADER[0]) {
-        problems
-            .push(format!("{DOCUMENT}:{number}: the header must be | {} |", HEADER.join(" | ")));
-    }
-    Vec::new()
-}
-
-fn are_dashes(cells: &[String]) -> bool {
-    !cells.is_empty()
-        && cells.iter().all(|cell| cell.contains('-') && cell.trim_matches([':', '-']).is_empty())
 }
 
 fn problems_of_row(
@@ -97,13 +55,6 @@ fn problems_of_row(
     problems
 }
 
-/// A file, and the names that it is to declare.
-#[derive(Debug, PartialEq)]
-struct Reference<'a> {
-    path: &'a str,
-    names: Vec<&'a str>,
-}
-
 fn problems_of_cell(
     repository: &Repository,
     cell: &str,
@@ -123,44 +74,6 @@ fn problems_of_cell(
                 .collect()
         }
     }
-}
-
-/// What stands in backticks: a path has a '/', and the names after it belong to it.
-fn references(cell: &str) -> Result<Vec<Reference<'_>>, String> {
-    let parts = take_apart(cell);
-    if parts.unclosed {
-        return Err("a backtick is not closed".to_string());
-    }
-    let mut references: Vec<Reference> = Vec::new();
-    for code in parts.code {
-        if code.contains('/') {
-            references.push(Reference { path: code, names: Vec::new() });
-        } else if let Some(last) = references.last_mut() {
-            last.names.push(code);
-        } else {
-            return Err(format!("no path stands before `{code}`"));
-        }
-    }
-    if references.is_empty() {
-        return Err("it has neither a reference nor 'none: REASON'".to_string());
-    }
-    Ok(references)
-}
-
-fn problems_of_reference(repository: &Repository, reference: &Reference) -> Vec<String> {
-    let path = reference.path;
-    let Some(text) = repository.text(path) else {
-        return vec![format!("there is no file {path}")];
-    };
-    if reference.names.is_empty() && !is_edit(path) {
-        return vec![format!("no name follows {path}")];
-    }
-    let missing = reference.names.iter().filter(|name| !declares(path, text, name));
-    missing.map(|name| format!("{path} does not declare {name}")).collect()
-}
-
-fn is_edit(path: &str) -> bool {
-    path.starts_with("crates/") && path.contains("/must-fail/") && path.ends_with(".edit")
 }
 
 #[cfg(test)]

@@ -1,7 +1,7 @@
 //! The checks, on the repository that this package stands in.
 
 use documents::repository::Repository;
-use documents::{links, machine, trace};
+use documents::{links, machine, promises, trace};
 use std::env;
 use std::path::Path;
 
@@ -16,6 +16,11 @@ fn must_have_no_problem(check: fn(&Repository) -> Vec<String>) {
 #[test]
 fn the_trace_leads_to_what_is_declared() {
     must_have_no_problem(trace::problems);
+}
+
+#[test]
+fn the_promises_are_declared() {
+    must_have_no_problem(promises::problems);
 }
 
 #[test]
