@@ -14,7 +14,8 @@
  *   25 SIZE     sizes that the operation does not allow together
  *   33 ZERO     a divisor of 0
  *
- * undrelvoa_validate puts its verdict into a report, and answers 0 when it has done so.
+ * undrelvoa_validate, the runs and the steps put their ending into a report, and answer 0 when they
+ * have done so.
  *
  * A buffer is a pointer and the number of its elements. The pointer of an empty buffer is not read,
  * but must not be NULL. Buffers of one call must not overlap.
@@ -143,6 +144,69 @@ uint64_t undrelvoa_scatter(uint64_t order, uint8_t *bytes, size_t bytes_len, uin
 uint64_t undrelvoa_validate(uint64_t order, uint64_t address_size, uint64_t unique_len,
                             uint64_t register_len, uint64_t ram_len, const uint64_t *list,
                             size_t list_len, uint64_t *report, size_t report_len);
+
+/* A run of a list of operations, without labels: paper 01's plain run.
+ *
+ *   order, address_size, list, list_len   as for undrelvoa_validate
+ *   start        the index of the first operation to execute, at most the number of operations
+ *   budget       the most operations to execute
+ *   unique, register_space, ram   the three spaces, read and written
+ *   unique_len, register_len, ram_len   their bytes, at most 65,536 each
+ *   log          its first words become the log words written; further words stay as they are
+ *   log_len      words of log: the log's room
+ *   report       report[0] to report[4] become ending, index, operations executed, log words written
+ *                and value; further words stay as they are
+ *   report_len   words of report, at least 5
+ *
+ * The ending of a refusal is 10, 11 or 27 (start) with index 0, or 21 to 26 with the index of the
+ * first malformed operation; nothing ran, and the spaces and the log are as lent. Else the ending is 0
+ * at the end of the list, 1 at an exit, with its destination as value, 2 with the budget spent, or 32
+ * BOUNDS, 33 ZERO or 34 LOG, at an operation that was not executed; the index is where the run ended.
+ * Answers 0 when the report is written, or 11.
+ */
+uint64_t undrelvoa_run(uint64_t order, uint64_t address_size, const uint64_t *list, size_t list_len,
+                       uint64_t start, uint32_t budget, uint8_t *unique, size_t unique_len,
+                       uint8_t *register_space, size_t register_len, uint8_t *ram, size_t ram_len,
+                       uint64_t *log, size_t log_len, uint64_t *report, size_t report_len);
+
+/* The same with a budget of 1. */
+uint64_t undrelvoa_step(uint64_t order, uint64_t address_size, const uint64_t *list, size_t list_len,
+                        uint64_t start, uint8_t *unique, size_t unique_len, uint8_t *register_space,
+                        size_t register_len, uint8_t *ram, size_t ram_len, uint64_t *log,
+                        size_t log_len, uint64_t *report, size_t report_len);
+
+/* A run with a label for each byte of each space: paper 01's labelled run.
+ *
+ *   unique_labels, register_labels, ram_labels   one byte for each byte of each space, 0 public, 1
+ *                secret, read and written
+ *   unique_labels_len, register_labels_len, ram_labels_len   their bytes, as many as the space has
+ *   the others   as for undrelvoa_run
+ *
+ * The endings are those of undrelvoa_run and two more. A refusal may be 11 for the labels too, where a
+ * space has another number of labels than bytes, or 12 LABEL, a label that is neither 0 nor 1, with
+ * index 0; the labels too are then as lent. A run may end with 31 LEAK, at an operation that was not
+ * executed because a byte of its pointer, condition, divisor or destination is secret; 31 goes before
+ * 32 to 34. All bytes that an operation writes become secret if a byte that it reads is, else public.
+ * Answers 0 when the report is written, or 11.
+ */
+uint64_t undrelvoa_labelled_run(uint64_t order, uint64_t address_size, const uint64_t *list,
+                                size_t list_len, uint64_t start, uint32_t budget, uint8_t *unique,
+                                size_t unique_len, uint8_t *register_space, size_t register_len,
+                                uint8_t *ram, size_t ram_len, uint8_t *unique_labels,
+                                size_t unique_labels_len, uint8_t *register_labels,
+                                size_t register_labels_len, uint8_t *ram_labels,
+                                size_t ram_labels_len, uint64_t *log, size_t log_len,
+                                uint64_t *report, size_t report_len);
+
+/* The same with a budget of 1. */
+uint64_t undrelvoa_labelled_step(uint64_t order, uint64_t address_size, const uint64_t *list,
+                                 size_t list_len, uint64_t start, uint8_t *unique,
+                                 size_t unique_len, uint8_t *register_space, size_t register_len,
+                                 uint8_t *ram, size_t ram_len, uint8_t *unique_labels,
+                                 size_t unique_labels_len, uint8_t *register_labels,
+                                 size_t register_labels_len, uint8_t *ram_labels,
+                                 size_t ram_labels_len, uint64_t *log, size_t log_len,
+                                 uint64_t *report, size_t report_len);
 
 /* Where the bytes of a varnode lie.
  *

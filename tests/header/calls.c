@@ -57,6 +57,65 @@ static void verdicts(void) {
     expect("short report", undrelvoa_validate(0, 8, 16, 16, 16, list, 5, report, 4), 11);
 }
 
+/* Paper 01, marked results: bytes 01 02 03 04, COPY of 2 bytes from 0 to 1: 01 01 02 04. Then a BRANCH to ram 7, an exit. */
+static void runs(void) {
+    uint64_t list[10] = {0x00323201, 1, 0, 0, 0, 0x00410004, 0, 7, 0, 0};
+    uint8_t unique[1] = {0}, registers[4] = {1, 2, 3, 4}, ram[8] = {0};
+    uint64_t log[1] = {8};
+    uint64_t report[6] = {7, 7, 7, 7, 7, 9};
+    expect("step", undrelvoa_step(0, 8, list, 10, 0, unique, 1, registers, 4, ram, 8, log, 1, report, 6), 0);
+    expect("budget spent", report[0], 2);
+    expect("next index", report[1], 1);
+    expect("executed", report[2], 1);
+    expect("log words", report[3], 0);
+    expect("byte written", registers[1], 1);
+    expect("byte written", registers[2], 2);
+    expect("byte after", registers[3], 4);
+    expect("run", undrelvoa_run(0, 8, list, 10, 1, 9, unique, 1, registers, 4, ram, 8, log, 1, report, 6), 0);
+    expect("exit", report[0], 1);
+    expect("destination", report[4], 7);
+    expect("the log's word", log[0], 8);
+    expect("the word after the report", report[5], 9);
+    expect("run", undrelvoa_run(0, 8, list, 10, 3, 9, unique, 1, registers, 4, ram, 8, log, 1, report, 6), 0);
+    expect("start after the end", report[0], 27);
+    expect("short report", undrelvoa_run(0, 8, list, 10, 0, 9, unique, 1, registers, 4, ram, 8, log, 1, report, 4), 11);
+    expect("byte after a refusal", registers[2], 2);
+}
+
+/* The same COPY with a secret byte at 0: both bytes written become secret, and a RETURN to one of them is LEAK. */
+static void labelled_runs(void) {
+    uint64_t list[10] = {0x00323201, 1, 0, 0, 0, 0x00310009, 0, 2, 0, 0};
+    uint8_t unique[1] = {0}, registers[4] = {1, 2, 3, 4}, ram[8] = {0};
+    uint8_t of_unique[1] = {0}, of_registers[4] = {1, 0, 0, 0}, of_ram[8] = {0};
+    uint64_t log[1] = {8};
+    uint64_t report[6] = {7, 7, 7, 7, 7, 9};
+    expect("labelled step", undrelvoa_labelled_step(0, 1, list, 10, 0, unique, 1, registers, 4, ram, 8, of_unique, 1, of_registers, 4, of_ram, 8, log, 1, report, 6), 0);
+    expect("budget spent", report[0], 2);
+    expect("next index", report[1], 1);
+    expect("byte written", registers[2], 2);
+    expect("label before", of_registers[0], 1);
+    expect("label written", of_registers[1], 1);
+    expect("label written", of_registers[2], 1);
+    expect("label after", of_registers[3], 0);
+    expect("labelled run", undrelvoa_labelled_run(0, 1, list, 10, 1, 9, unique, 1, registers, 4, ram, 8, of_unique, 1, of_registers, 4, of_ram, 8, log, 1, report, 6), 0);
+    expect("secret destination", report[0], 31);
+    expect("where it stopped", report[1], 1);
+    expect("not executed", report[2], 0);
+    expect("no value", report[4], 0);
+    of_registers[2] = 0;
+    expect("labelled run", undrelvoa_labelled_run(0, 1, list, 10, 1, 9, unique, 1, registers, 4, ram, 8, of_unique, 1, of_registers, 4, of_ram, 8, log, 1, report, 6), 0);
+    expect("exit", report[0], 1);
+    expect("destination", report[4], 2);
+    expect("the word after the report", report[5], 9);
+    expect("labelled run", undrelvoa_labelled_run(0, 1, list, 10, 0, 9, unique, 1, registers, 4, ram, 8, of_unique, 1, of_registers, 3, of_ram, 8, log, 1, report, 6), 0);
+    expect("a label too few", report[0], 11);
+    of_registers[3] = 2;
+    expect("labelled run", undrelvoa_labelled_run(0, 1, list, 10, 0, 9, unique, 1, registers, 4, ram, 8, of_unique, 1, of_registers, 4, of_ram, 8, log, 1, report, 6), 0);
+    expect("a label of 2", report[0], 12);
+    expect("the label after a refusal", of_registers[2], 0);
+    expect("short report", undrelvoa_labelled_run(0, 1, list, 10, 0, 9, unique, 1, registers, 4, ram, 8, of_unique, 1, of_registers, 4, of_ram, 8, log, 1, report, 4), 11);
+}
+
 static void shown(void) {
     uint8_t unique[4] = {0}, registers[4] = {0}, ram[4] = {0};
     uint64_t place[3] = {7, 7, 7};
@@ -72,6 +131,8 @@ int main(void) {
     values();
     bytes();
     verdicts();
+    runs();
+    labelled_runs();
     shown();
     printf("%d passed, %d failed\n", passed, failed);
     return failed != 0;

@@ -8,7 +8,6 @@ use native.Mathlib.Nat.{mod-lt, mod-le, div-le-self, lt-of-le-of-lt, lt-of-lt-of
 use borrow.Author.Tests.{eqb-true, ltb-true}
 use lib.Dec.{eqb, ltb, lit<}
 use lib.Count.{ones-le}
-use lib.Arith as A
 use lib.Signed.{shrZ}
 use Rattle.word.specs.Sum.{sum, digit}
 use Rattle.word.proofs.Digits.{digit-lt, digits-lt}

@@ -1,5 +1,5 @@
 // The C interface: include/undrelvoa.h says what each parameter is. A slice here is a pointer and a length there; for the names that
-// differ, size is output_size, out is result, show's register is register_space, and the validator's unique, register and ram are the
+// differ, size is output_size, out is result, a register slice is register_space, and the validator's unique, register and ram are the
 // three lengths. A call that answers another number than 0 changes no buffer.
 ghost use mathlib.Core.Path.{_≡_};
 ghost use mathlib.Core.Bool.{cond};
@@ -8,12 +8,11 @@ ghost use lib.ListN.{length, set};
 ghost use lib.Seq.{sets};
 ghost use Rattle.word.specs.Word.{part, valueOf, bytesOf};
 ghost use Rattle.arithmetic.specs.Result.{result};
-ghost use Rattle.exports.specs.Answers.{roomFault, verdictWords, shownLength, placeWords};
-ghost use Rattle.exports.specs.Faults.{valueFault, gatherFault, scatterFault};
-use operation::layout::Lengths;
-use operation::layout::Settings;
-
-mod faults;
+ghost use Rattle.exports_values.specs.Answers.{verdictWords, shownLength, placeWords};
+ghost use Rattle.machine.specs.Memory.{spaces};
+ghost use Rattle.machine.specs.Calls.{plainRun, plainStep, labelledRun, labelledStep};
+ghost use Rattle.exports_runs.specs.Buffers.{roomFault, settingsOf, plainBuffers, labelledBuffers, after};
+ghost use Rattle.exports_values.specs.Faults.{valueFault, gatherFault, scatterFault};
 
 #[no_mangle]
 pub extern "C" fn undrelvoa_value(
@@ -28,12 +27,7 @@ pub extern "C" fn undrelvoa_value(
     ensures answer { λ r. ⌜ r ≡ valueFault opcode size size0 size1 a b (length (now (out .entry))) ⌝ }
     ensures buffer { λ r. ⌜ now (out .exit) ≡ cond (eqb r 0) (set (now (out .entry)) 0 (result opcode size size0 size1 a b)) (now (out .entry)) ⌝ }
 {
-    let fault = faults::of_value(opcode, size, size0, size1, a, b, out.len());
-    if fault != 0 {
-        return fault;
-    }
-    out[0] = arithmetic::value(opcode, size, size0, size1, a, b);
-    0
+    exports_values::value(opcode, size, size0, size1, a, b, out)
 }
 
 #[no_mangle]
@@ -47,12 +41,7 @@ pub extern "C" fn undrelvoa_gather(
     ensures answer { λ r. ⌜ r ≡ gatherFault order (length (now (bytes .entry))) offset size (length (now (out .entry))) ⌝ }
     ensures buffer { λ r. ⌜ now (out .exit) ≡ cond (eqb r 0) (set (now (out .entry)) 0 (valueOf (eqb order 1) (part (now (bytes .entry)) offset size))) (now (out .entry)) ⌝ }
 {
-    let fault = faults::of_gather(order, bytes.len(), offset, size, out.len());
-    if fault != 0 {
-        return fault;
-    }
-    out[0] = word::bytes::gather(order == 1, bytes, offset as usize, size as usize);
-    0
+    exports_values::gather(order, bytes, offset, size, out)
 }
 
 #[no_mangle]
@@ -66,12 +55,7 @@ pub extern "C" fn undrelvoa_scatter(
     ensures answer { λ r. ⌜ r ≡ scatterFault order (length (now (bytes .entry))) offset size value ⌝ }
     ensures buffer { λ r. ⌜ now (bytes .exit) ≡ cond (eqb r 0) (sets (now (bytes .entry)) offset (bytesOf (eqb order 1) size value)) (now (bytes .entry)) ⌝ }
 {
-    let fault = faults::of_scatter(order, bytes.len(), offset, size, value);
-    if fault != 0 {
-        return fault;
-    }
-    word::bytes::scatter(order == 1, bytes, offset as usize, size as usize, value);
-    0
+    exports_values::scatter(order, bytes, offset, size, value)
 }
 
 #[no_mangle]
@@ -87,25 +71,157 @@ pub extern "C" fn undrelvoa_validate(
     ensures answer { λ r. ⌜ r ≡ roomFault 5 (length (now (report .entry))) ⌝ }
     ensures buffer { λ r. ⌜ now (report .exit) ≡ cond (eqb r 0) (sets (now (report .entry)) 0 (verdictWords order «address_size» unique register ram (now (list .entry)))) (now (report .entry)) ⌝ }
 {
-    if report.len() < 5 {
-        return 11;
-    }
-    let settings = Settings {
-        order: order,
-        address_size: address_size,
-    };
-    let lengths = Lengths {
-        unique: unique,
-        register: register,
-        ram: ram,
-    };
-    let verdict = interpreter::validate(settings, lengths, list);
-    report[0] = verdict.ending;
-    report[1] = verdict.index;
-    report[2] = verdict.executed;
-    report[3] = verdict.logged;
-    report[4] = verdict.value;
-    0
+    exports_values::validate(order, address_size, unique, register, ram, list, report)
+}
+
+#[no_mangle]
+pub extern "C" fn undrelvoa_run(
+    order: u64,
+    address_size: u64,
+    list: &[u64],
+    start: u64,
+    budget: u32,
+    unique: &mut [u8],
+    register: &mut [u8],
+    ram: &mut [u8],
+    log: &mut [u64],
+    report: &mut [u64],
+) -> u64
+    ensures answer { λ r. ⌜ r ≡ roomFault 5 (length (now (report .entry))) ⌝ }
+    ensures buffers { λ r. ⌜ plainBuffers (spaces (now (unique .exit)) (now (register .exit)) (now (ram .exit))) (now (log .exit)) (now (report .exit))
+        ≡ cond (eqb r 0)
+        (after (now (report .entry)) (plainRun (settingsOf order «address_size») (now (list .entry)) start budget (now (log .entry)) (spaces (now (unique .entry)) (now (register .entry)) (now (ram .entry)))))
+        (plainBuffers (spaces (now (unique .entry)) (now (register .entry)) (now (ram .entry))) (now (log .entry)) (now (report .entry))) ⌝ }
+{
+    exports_runs::run(
+        order,
+        address_size,
+        list,
+        start,
+        budget,
+        unique,
+        register,
+        ram,
+        log,
+        report,
+    )
+}
+
+#[no_mangle]
+pub extern "C" fn undrelvoa_step(
+    order: u64,
+    address_size: u64,
+    list: &[u64],
+    start: u64,
+    unique: &mut [u8],
+    register: &mut [u8],
+    ram: &mut [u8],
+    log: &mut [u64],
+    report: &mut [u64],
+) -> u64
+    ensures answer { λ r. ⌜ r ≡ roomFault 5 (length (now (report .entry))) ⌝ }
+    ensures buffers { λ r. ⌜ plainBuffers (spaces (now (unique .exit)) (now (register .exit)) (now (ram .exit))) (now (log .exit)) (now (report .exit))
+        ≡ cond (eqb r 0)
+        (after (now (report .entry)) (plainStep (settingsOf order «address_size») (now (list .entry)) start (now (log .entry)) (spaces (now (unique .entry)) (now (register .entry)) (now (ram .entry)))))
+        (plainBuffers (spaces (now (unique .entry)) (now (register .entry)) (now (ram .entry))) (now (log .entry)) (now (report .entry))) ⌝ }
+{
+    exports_runs::run(
+        order,
+        address_size,
+        list,
+        start,
+        1,
+        unique,
+        register,
+        ram,
+        log,
+        report,
+    )
+}
+
+#[no_mangle]
+pub extern "C" fn undrelvoa_labelled_run(
+    order: u64,
+    address_size: u64,
+    list: &[u64],
+    start: u64,
+    budget: u32,
+    unique: &mut [u8],
+    register: &mut [u8],
+    ram: &mut [u8],
+    unique_labels: &mut [u8],
+    register_labels: &mut [u8],
+    ram_labels: &mut [u8],
+    log: &mut [u64],
+    report: &mut [u64],
+) -> u64
+    ensures answer { λ r. ⌜ r ≡ roomFault 5 (length (now (report .entry))) ⌝ }
+    ensures buffers { λ r. ⌜ labelledBuffers (spaces (now (unique .exit)) (now (register .exit)) (now (ram .exit)))
+        (spaces (now («unique_labels» .exit)) (now («register_labels» .exit)) (now («ram_labels» .exit))) (now (log .exit)) (now (report .exit))
+        ≡ cond (eqb r 0)
+        (after (now (report .entry)) (labelledRun (settingsOf order «address_size») (now (list .entry)) start budget (now (log .entry))
+        (spaces (now («unique_labels» .entry)) (now («register_labels» .entry)) (now («ram_labels» .entry)))
+        (spaces (now (unique .entry)) (now (register .entry)) (now (ram .entry)))))
+        (labelledBuffers (spaces (now (unique .entry)) (now (register .entry)) (now (ram .entry)))
+        (spaces (now («unique_labels» .entry)) (now («register_labels» .entry)) (now («ram_labels» .entry))) (now (log .entry)) (now (report .entry))) ⌝ }
+{
+    exports_runs::labelled_run(
+        order,
+        address_size,
+        list,
+        start,
+        budget,
+        unique,
+        register,
+        ram,
+        unique_labels,
+        register_labels,
+        ram_labels,
+        log,
+        report,
+    )
+}
+
+#[no_mangle]
+pub extern "C" fn undrelvoa_labelled_step(
+    order: u64,
+    address_size: u64,
+    list: &[u64],
+    start: u64,
+    unique: &mut [u8],
+    register: &mut [u8],
+    ram: &mut [u8],
+    unique_labels: &mut [u8],
+    register_labels: &mut [u8],
+    ram_labels: &mut [u8],
+    log: &mut [u64],
+    report: &mut [u64],
+) -> u64
+    ensures answer { λ r. ⌜ r ≡ roomFault 5 (length (now (report .entry))) ⌝ }
+    ensures buffers { λ r. ⌜ labelledBuffers (spaces (now (unique .exit)) (now (register .exit)) (now (ram .exit)))
+        (spaces (now («unique_labels» .exit)) (now («register_labels» .exit)) (now («ram_labels» .exit))) (now (log .exit)) (now (report .exit))
+        ≡ cond (eqb r 0)
+        (after (now (report .entry)) (labelledStep (settingsOf order «address_size») (now (list .entry)) start (now (log .entry))
+        (spaces (now («unique_labels» .entry)) (now («register_labels» .entry)) (now («ram_labels» .entry)))
+        (spaces (now (unique .entry)) (now (register .entry)) (now (ram .entry)))))
+        (labelledBuffers (spaces (now (unique .entry)) (now (register .entry)) (now (ram .entry)))
+        (spaces (now («unique_labels» .entry)) (now («register_labels» .entry)) (now («ram_labels» .entry))) (now (log .entry)) (now (report .entry))) ⌝ }
+{
+    exports_runs::labelled_run(
+        order,
+        address_size,
+        list,
+        start,
+        1,
+        unique,
+        register,
+        ram,
+        unique_labels,
+        register_labels,
+        ram_labels,
+        log,
+        report,
+    )
 }
 
 #[no_mangle]
@@ -121,33 +237,5 @@ pub extern "C" fn undrelvoa_show<'a>(
     ensures answer { λ r. ⌜ r ≡ roomFault 3 (length (now (place .entry))) ⌝ }
     ensures buffer { λ r. ⌜ now (place .exit) ≡ cond (eqb r 0) (sets (now (place .entry)) 0 (placeWords (now (unique .entry)) (now (register .entry)) (now (ram .entry)) space offset size)) (now (place .entry)) ⌝ }
 {
-    if place.len() < 3 {
-        return 11;
-    }
-    let shown = shown_length(unique, register, ram, space, offset, size);
-    if shown == 0 {
-        place[0] = 0;
-        place[1] = 0;
-        place[2] = 0;
-    } else {
-        place[0] = space;
-        place[1] = offset;
-        place[2] = shown;
-    }
-    0
-}
-
-// How many bytes are shown.
-fn shown_length<'a>(
-    unique: &'a [u8],
-    register: &'a [u8],
-    ram: &'a [u8],
-    space: u64,
-    offset: u64,
-    size: u64,
-) -> u64
-    ensures { λ r. ⌜ r ≡ shownLength (now (unique .entry)) (now (register .entry)) (now (ram .entry)) space offset size ⌝ }
-{
-    let part = interpreter::show(unique, register, ram, space, offset, size);
-    part.len() as u64
+    exports_values::show(unique, register, ram, space, offset, size, place)
 }

@@ -1,17 +1,150 @@
-// The public calls. None asks anything of its caller: the validator answers bad input by number, and show by an empty part.
+// The public calls. None asks anything of its caller: the validator and the runs answer bad input by number, and show by an
+// empty part.
 ghost use mathlib.Core.Path.{_≡_};
 ghost use Rattle.validation.specs.Verdict.{verdict};
-ghost use Rattle.interpreter.specs.Show.{view, showable, shownIn, shown};
+ghost use Rattle.machine.specs.Memory.{spaces};
+ghost use Rattle.machine.specs.Calls.{plainRun, plainStep, labelledRun, labelledStep};
+ghost use Rattle.execution.specs.Loops.{plainly};
+ghost use Rattle.labelled.specs.Left.{labelled};
+ghost use Rattle.show.specs.Show.{view, shown};
+use execution::run_from;
+use labelled::run_labelled;
 use operation::layout::Lengths;
 use operation::layout::Settings;
 use operation::report::Report;
-use word::size::within;
+use refusal::labelled_refusal;
+use refusal::plain_refusal;
 
 // The verdict on a list of operations, for spaces of these lengths: paper 01's judge.
 pub fn validate(settings: Settings, lengths: Lengths, list: &[u64]) -> Report
     ensures { λ r. ⌜ r ≡ verdict settings lengths (now (list .entry)) ⌝ }
 {
     validation::verdict(settings, lengths, list)
+}
+
+// A run of at most `budget` operations, from operation `start`, without labels: paper 01's plain run.
+pub fn run(
+    settings: Settings,
+    list: &[u64],
+    start: u64,
+    budget: u32,
+    unique: &mut [u8],
+    register: &mut [u8],
+    ram: &mut [u8],
+    log: &mut [u64],
+) -> Report
+    ensures { λ r. ⌜ plainly r (spaces (now (unique .exit)) (now (register .exit)) (now (ram .exit))) (now (log .exit))
+        ≡ plainRun settings (now (list .entry)) start budget (now (log .entry))
+        (spaces (now (unique .entry)) (now (register .entry)) (now (ram .entry))) ⌝ }
+{
+    let refused = plain_refusal(settings, list, start, unique, register, ram);
+    if refused.ending != 0 {
+        return refused;
+    }
+    let big = settings.order == 1;
+    let at = start as usize;
+    let most = budget as u64;
+    run_from(big, list, unique, register, ram, log, at, 0, most)
+}
+
+// The same with budget 1.
+pub fn step(
+    settings: Settings,
+    list: &[u64],
+    start: u64,
+    unique: &mut [u8],
+    register: &mut [u8],
+    ram: &mut [u8],
+    log: &mut [u64],
+) -> Report
+    ensures { λ r. ⌜ plainly r (spaces (now (unique .exit)) (now (register .exit)) (now (ram .exit))) (now (log .exit))
+        ≡ plainStep settings (now (list .entry)) start (now (log .entry))
+        (spaces (now (unique .entry)) (now (register .entry)) (now (ram .entry))) ⌝ }
+{
+    run(settings, list, start, 1, unique, register, ram, log)
+}
+
+// A run with a label for each byte of each space, 0 public or 1 secret: paper 01's labelled run.
+pub fn labelled_run(
+    settings: Settings,
+    list: &[u64],
+    start: u64,
+    budget: u32,
+    unique: &mut [u8],
+    register: &mut [u8],
+    ram: &mut [u8],
+    unique_labels: &mut [u8],
+    register_labels: &mut [u8],
+    ram_labels: &mut [u8],
+    log: &mut [u64],
+) -> Report
+    ensures { λ r. ⌜ labelled r (spaces (now (unique .exit)) (now (register .exit)) (now (ram .exit)))
+        (spaces (now («unique_labels» .exit)) (now («register_labels» .exit)) (now («ram_labels» .exit))) (now (log .exit))
+        ≡ labelledRun settings (now (list .entry)) start budget (now (log .entry))
+        (spaces (now («unique_labels» .entry)) (now («register_labels» .entry)) (now («ram_labels» .entry)))
+        (spaces (now (unique .entry)) (now (register .entry)) (now (ram .entry))) ⌝ }
+{
+    let refused = labelled_refusal(
+        settings,
+        list,
+        start,
+        unique,
+        register,
+        ram,
+        unique_labels,
+        register_labels,
+        ram_labels,
+    );
+    if refused.ending != 0 {
+        return refused;
+    }
+    run_labelled(
+        settings.order == 1,
+        list,
+        unique,
+        register,
+        ram,
+        unique_labels,
+        register_labels,
+        ram_labels,
+        log,
+        start as usize,
+        budget as u64,
+    )
+}
+
+// The same with budget 1.
+pub fn labelled_step(
+    settings: Settings,
+    list: &[u64],
+    start: u64,
+    unique: &mut [u8],
+    register: &mut [u8],
+    ram: &mut [u8],
+    unique_labels: &mut [u8],
+    register_labels: &mut [u8],
+    ram_labels: &mut [u8],
+    log: &mut [u64],
+) -> Report
+    ensures { λ r. ⌜ labelled r (spaces (now (unique .exit)) (now (register .exit)) (now (ram .exit)))
+        (spaces (now («unique_labels» .exit)) (now («register_labels» .exit)) (now («ram_labels» .exit))) (now (log .exit))
+        ≡ labelledStep settings (now (list .entry)) start (now (log .entry))
+        (spaces (now («unique_labels» .entry)) (now («register_labels» .entry)) (now («ram_labels» .entry)))
+        (spaces (now (unique .entry)) (now (register .entry)) (now (ram .entry))) ⌝ }
+{
+    labelled_run(
+        settings,
+        list,
+        start,
+        1,
+        unique,
+        register,
+        ram,
+        unique_labels,
+        register_labels,
+        ram_labels,
+        log,
+    )
 }
 
 // The bytes of a varnode, as that very part of its space; an empty part where it has none.
@@ -25,34 +158,5 @@ pub fn show<'a>(
 ) -> &'a [u8]
     ensures { λ r. ⌜ view r ≡ shown (unique .entry) (register .entry) (ram .entry) space offset size ⌝ }
 {
-    match space {
-        2 => shown_in(unique, offset, size),
-        3 => shown_in(register, offset, size),
-        4 => shown_in(ram, offset, size),
-        _ => &ram[0..0],
-    }
-}
-
-fn shown_in<'a>(s: &'a [u8], offset: u64, size: u64) -> &'a [u8]
-    ensures { λ r. ⌜ view r ≡ shownIn (s .entry) offset size ⌝ }
-{
-    if showable(s.len(), offset, size) {
-        let at = offset as usize;
-        let end = at + size as usize;
-        &s[at..end]
-    } else {
-        &s[0..0]
-    }
-}
-
-fn showable(n: usize, offset: u64, size: u64) -> bool
-    ensures { λ r. ⌜ r ≡ showable n offset size ⌝ }
-{
-    if size < 1 {
-        return false;
-    }
-    if 8 < size {
-        return false;
-    }
-    within(offset, size, n as u64)
+    show::show(unique, register, ram, space, offset, size)
 }

@@ -51,18 +51,18 @@ has-secret labels v = by (eqb (v .space) 1) refl
 no-space : (labels : Memory) (v : Varnode) → spaceOf labels (v .space) ≡ [] → hasSecret labels v ≡ false
 no-space labels v e = sym (has-secret labels v) ∙ public-space labels v e
 
-constant-public : (labels : Memory) (v : Varnode) → v .space ≡ 1 → hasSecret labels v ≡ false
+pub constant-public : (labels : Memory) (v : Varnode) → v .space ≡ 1 → hasSecret labels v ≡ false
 constant-public labels v e = no-space labels v (constant-space labels (v .space) e)
 
-absent-public : (labels : Memory) (v : Varnode) → v ≡ absent → hasSecret labels v ≡ false
+pub absent-public : (labels : Memory) (v : Varnode) → v ≡ absent → hasSecret labels v ≡ false
 unfolding absent spaceOf
 absent-public labels v e = no-space labels v (rw e refl)
 
-absent-written : (m : Memory) (v : Varnode) (bs : List ℕ) → v ≡ absent → written m v bs ≡ m
+pub absent-written : (m : Memory) (v : Varnode) (bs : List ℕ) → v ≡ absent → written m v bs ≡ m
 unfolding absent written withSpace
 absent-written m v bs e = rw e refl
 
-one-secret : (labels : Memory) (v : Varnode) → secret labels (v ∷ []) ≡ hasSecret labels v
+pub one-secret : (labels : Memory) (v : Varnode) → secret labels (v ∷ []) ≡ hasSecret labels v
 unfolding secret
 one-secret labels v = or-false (anySecret (bytesAt labels v)) ∙ has-secret labels v
 
@@ -101,12 +101,28 @@ unfolding bytesWritten computed valuesOf
 calculated big op m n e = rw e refl
 
 -- an opcode is a number k, or it is not
-when : {A : Type 0} (n k : ℕ) → (n ≡ k → A) → (eqb n k ≡ false → A) → A
+pub when : {A : Type 0} (n k : ℕ) → (n ≡ k → A) → (eqb n k ≡ false → A) → A
 when {A} n k same other = by (eqb n k) refl
   where
     by : (t : Bool) → eqb n k ≡ t → A
     by true e = same (eqb-true n k e)
     by false e = other e
+
+pub no-division : (n : ℕ) → eqb n 35 ≡ false → eqb n 36 ≡ false → eqb n 37 ≡ false → eqb n 38 ≡ false → divides n ≡ false
+unfolding divides
+no-division n f5 f6 f7 f8 = by (leb 35 n && leb n 38) refl
+  where
+    by : (t : Bool) → leb 35 n && leb n 38 ≡ t → t ≡ false
+    by true e =
+        let d = both (leb 35 n) (leb n 38) e in
+        let low : 35 ≤ n = leb-true 35 n (d .0) in
+        let high : n ≤ 38 = leb-true n 38 (d .1) in
+        let n5 : n ≡ 35 → ⊥ = eqb-false n 35 f5 in
+        let n6 : n ≡ 36 → ⊥ = eqb-false n 36 f6 in
+        let n7 : n ≡ 37 → ⊥ = eqb-false n 37 f7 in
+        let n8 : n ≡ 38 → ⊥ = eqb-false n 38 f8 in
+        absurd (let z : ⊥ = omega arith in z)
+    by false e = refl
 
 -- ---- opcodes that the conditions do not tell apart
 
@@ -229,20 +245,20 @@ store = record {
 -- ---- one operation, by its conditions
 
 -- a destination that a well-formed branch at index i can have
-data Destination (i : ℕ) (v : Varnode) : Type 0 where
+pub data Destination (i : ℕ) (v : Varnode) : Type 0 where
   inList : eqb (v .space) 1 ≡ true → eqb (v .space) 4 ≡ false → indexOf (relativeTarget i (v .offset)) ≡ (i + v .offset) % 2 ^ 64 → Destination i v
   inRam : eqb (v .space) 1 ≡ false → eqb (v .space) 4 ≡ true → Destination i v
 
 -- what is used of a well-formed operation at index i
-record Formed (big : Bool) (m : Memory) (i : ℕ) (op : Operation) : Type 0 where
-  noOutput : hasPlace (op .opcode) 0 ≡ false → op .output ≡ absent
-  noInput1 : hasPlace (op .opcode) 2 ≡ false → op .input1 ≡ absent
-  named : accesses (op .opcode) ≡ true → namesSpace (op .input0) ≡ true
-  constant1 : op .opcode ≡ 11 → op .input1 .space ≡ 1
-  branchTo : branches (op .opcode) ≡ true → Destination i (op .input0)
-  fits0 : branches (op .opcode) ≡ false → valueAt big m (op .input0) < 256 ^ op .input0 .size
-  fits1 : valueAt big m (op .input1) < 256 ^ op .input1 .size
-  fits2 : valueAt big m (op .input2) < 256 ^ op .input2 .size
+pub record Formed (big : Bool) (m : Memory) (i : ℕ) (op : Operation) : Type 0 where
+  pub noOutput : hasPlace (op .opcode) 0 ≡ false → op .output ≡ absent
+  pub noInput1 : hasPlace (op .opcode) 2 ≡ false → op .input1 ≡ absent
+  pub named : accesses (op .opcode) ≡ true → namesSpace (op .input0) ≡ true
+  pub constant1 : op .opcode ≡ 11 → op .input1 .space ≡ 1
+  pub branchTo : branches (op .opcode) ≡ true → Destination i (op .input0)
+  pub fits0 : branches (op .opcode) ≡ false → valueAt big m (op .input0) < 256 ^ op .input0 .size
+  pub fits1 : valueAt big m (op .input1) < 256 ^ op .input1 .size
+  pub fits2 : valueAt big m (op .input2) < 256 ^ op .input2 .size
 
 module _ (big : Bool) (op : Operation) (at : Position) (labels m : Memory) where
   toldBy : (leak outside byZero due leaves : Bool) (word to next : ℕ) → Varnode → (hidden : Bool) (value : ℕ) → Stepped
@@ -421,7 +437,7 @@ module _ (big : Bool) (op : Operation) (at : Position) (labels m : Memory) where
   -- ---- one operation, by its class
 
   module _ (b : OfBytes m) (f : Formed big m (at .index) op) where
-    abbrev Meets : Type 0
+    abbrev pub Meets : Type 0
     Meets = performed big op at labels m ≡ told big op at labels m
 
     unread-input1 : hasSecret labels (op .input1) ≡ false
@@ -563,23 +579,7 @@ module _ (big : Bool) (op : Operation) (at : Position) (labels m : Memory) where
         let n = both (eqb (op .input0 .space) 1 && leb 2 (op .input0 .offset)) (leb (op .input0 .offset) 4) (f .named a) in
         eqb-true (op .input0 .space) 1 (both (eqb (op .input0 .space) 1) (leb 2 (op .input0 .offset)) (n .0) .0)
 
-    no-division : (n : ℕ) → eqb n 35 ≡ false → eqb n 36 ≡ false → eqb n 37 ≡ false → eqb n 38 ≡ false → divides n ≡ false
-    unfolding divides
-    no-division n f5 f6 f7 f8 = by (leb 35 n && leb n 38) refl
-      where
-        by : (t : Bool) → leb 35 n && leb n 38 ≡ t → t ≡ false
-        by true e =
-            let d = both (leb 35 n) (leb n 38) e in
-            let low : 35 ≤ n = leb-true 35 n (d .0) in
-            let high : n ≤ 38 = leb-true n 38 (d .1) in
-            let n5 : n ≡ 35 → ⊥ = eqb-false n 35 f5 in
-            let n6 : n ≡ 36 → ⊥ = eqb-false n 36 f6 in
-            let n7 : n ≡ 37 → ⊥ = eqb-false n 37 f7 in
-            let n8 : n ≡ 38 → ⊥ = eqb-false n 38 f8 in
-            absurd (let z : ⊥ = omega arith in z)
-        by false e = refl
-
-    meets : Meets
+    pub meets : Meets
     unfolding classOf kindOf branches jumps divides accesses among moves hasPlace outputs inputs rowOf shapes free divisions indirectBranches directBranches conditionalBranch load store
     meets =
         when (op .opcode) 1 (λ e. meets-copy (ap classOf e) (rw e refl) (bytes-copy e)) (λ n1.
@@ -638,7 +638,7 @@ module _ (opcode : ℕ) (v : Varnode) where
 
 module _ (big : Bool) (addressSize : ℕ) (list : List ℕ) (i : ℕ) (m : Memory) (words : Words list) (b : OfBytes m)
     (small : operationCount list < 2 ^ 64) (w : WellFormed addressSize (lengthsOf m) list i) where
-  formed : Formed big m i (operationAt list i)
+  pub formed : Formed big m i (operationAt list i)
   unfolding operationAt absent varnodeAt describedBy offsetAt wordAt
   formed = record {
     noOutput = λ e. w .absent 0 (omega arith) e;
@@ -653,7 +653,7 @@ module _ (big : Bool) (addressSize : ℕ) (list : List ℕ) (i : ℕ) (m : Memor
 
 -- ---- the run
 
-few-operations : (lengths : Lengths) (list : List ℕ) → lengthsInRange lengths list ≡ true → operationCount list < 2 ^ 64
+pub few-operations : (lengths : Lengths) (list : List ℕ) → lengthsInRange lengths list ≡ true → operationCount list < 2 ^ 64
 unfolding lengthsInRange
 few-operations lengths list e =
     let a = both _ (leb (lengths .ram) mostBytes) e in

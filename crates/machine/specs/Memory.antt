@@ -16,6 +16,10 @@ pub record Memory : Type 0 where
   pub register : List ℕ
   pub ram : List ℕ
 
+-- Three lent buffers as a memory.
+abbrev pub spaces : (unique register ram : List ℕ) → Memory
+spaces unique register ram = record { unique = unique; register = register; ram = ram }
+
 unfoldable pub lengthsOf : Memory → Lengths
 lengthsOf m = record { unique = length (m .unique); register = length (m .register); ram = length (m .ram) }
 

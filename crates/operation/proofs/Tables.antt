@@ -12,7 +12,7 @@ use Rattle.integer.specs.Operations.{flag}
 use Rattle.arithmetic.specs.Operands.{among, unary}
 use Rattle.arithmetic.proofs.Agreement.{flag-one}
 use Rattle.integer.proofs.Booleans.{both}
-use Rattle.operation.specs.Shapes.{shapes, rowOf, inputs}
+use Rattle.operation.specs.Shapes.{shapes, rowOf, outputs, inputs, hasPlace}
 
 -- the opcodes of some rows are at most `top`
 abbrev upTo : ℕ → List (ℕ × ℕ × ℕ) → Bool
@@ -41,3 +41,13 @@ unary-shape n low high =
     let f : flag (unary n) ≡ flag (eqb (inputs n) 1) = e ∙ rw (le-leb 10 n low) in
     let g : eqb (flag (unary n)) 1 ≡ eqb (flag (eqb (inputs n) 1)) 1 = rw f in
     sym (flag-one (unary n)) ∙ g ∙ flag-one (eqb (inputs n) 1)
+
+-- the opcodes from 10 on have an output and an input0
+pub data-shape : (n : ℕ) → 10 ≤ n → n ≤ 42 → (hasPlace n 0 ≡ true) × (hasPlace n 1 ≡ true)
+unfolding tabulate flag hasPlace outputs inputs rowOf shapes
+data-shape n low high =
+    let e : flag (hasPlace n 0 && hasPlace n 1) ≡ cond (leb 10 n) 1 (flag (hasPlace n 0 && hasPlace n 1)) =
+    sym (tabulate-at 43 (λ k. flag (hasPlace k 0 && hasPlace k 1)) n (omega arith))
+    ∙ tabulate-at 43 (λ k. cond (leb 10 k) 1 (flag (hasPlace k 0 && hasPlace k 1))) n (omega arith) in
+    let f : flag (hasPlace n 0 && hasPlace n 1) ≡ 1 = e ∙ rw (le-leb 10 n low) refl in
+    both (hasPlace n 0) (hasPlace n 1) (sym (flag-one (hasPlace n 0 && hasPlace n 1)) ∙ rw f refl)

@@ -34,7 +34,7 @@ pub fn breaks_head(list: &[u64], i: usize) -> bool
 }
 
 // LOAD, STORE
-fn accesses(opcode: u64) -> bool
+pub fn accesses(opcode: u64) -> bool
     ensures { λ r. ⌜ r ≡ accesses opcode ⌝ }
 {
     if opcode == 2 {
@@ -44,7 +44,7 @@ fn accesses(opcode: u64) -> bool
 }
 
 // BRANCH, CBRANCH, CALL
-fn branches(opcode: u64) -> bool
+pub fn branches(opcode: u64) -> bool
     ensures { λ r. ⌜ r ≡ branches opcode ⌝ }
 {
     if opcode == 4 {
@@ -57,7 +57,7 @@ fn branches(opcode: u64) -> bool
 }
 
 // BRANCHIND, CALLIND, RETURN
-fn jumps(opcode: u64) -> bool
+pub fn jumps(opcode: u64) -> bool
     ensures { λ r. ⌜ r ≡ jumps opcode ⌝ }
 {
     if opcode == 6 {
@@ -115,7 +115,7 @@ fn is_destination(v: Varnode) -> bool
     v.space == 4
 }
 
-fn length_of(lengths: Lengths, space: u64) -> u64
+pub fn length_of(lengths: Lengths, space: u64) -> u64
     ensures { λ r. ⌜ r ≡ lengthOf lengths space ⌝ }
 {
     match space {

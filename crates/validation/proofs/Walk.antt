@@ -173,8 +173,8 @@ pub same-sizes : (a : ℕ) {c c′ : ℕ} {u u′ v v′ w w′ : Varnode} → c
     → breaksSize a c (u .size) (v .size) (w .size) ≡ breaksSize a c′ (u′ .size) (v′ .size) (w′ .size)
 same-sizes a ec eu ev ew = rw (ec, eu, ev, ew)
 
-pub same-target : (n i : ℕ) {c c′ : ℕ} {v v′ : Varnode} → c ≡ c′ → v ≡ v′ → breaksTarget n i c v ≡ breaksTarget n i c′ v′
-same-target n i ec ev = rw (ec, ev)
+pub same-target : (i : ℕ) {n n′ c c′ : ℕ} {v v′ : Varnode} → n ≡ n′ → c ≡ c′ → v ≡ v′ → breaksTarget n i c v ≡ breaksTarget n′ i c′ v′
+same-target i en ec ev = rw (en, ec, ev)
 
 pub same-decoding : {w w′ : Bool} {d d′ o o′ : ℕ} → w ≡ w′ → d ≡ d′ → o ≡ o′ → decoded w d o ≡ decoded w′ d′ o′
 same-decoding ew ed eo = rw (ew, ed, eo)

@@ -2,7 +2,7 @@
 ghost use mathlib.Core.Path.{_≡_};
 ghost use Prim.Native.Nat.{_+_, _*_, _≤_, _<_};
 ghost use lib.ListN.{length};
-ghost use Rattle.operation.specs.Layout.{wordsPerOperation, mostInputs};
+ghost use Rattle.operation.specs.Layout.{wordsPerOperation, mostInputs, operationCount};
 ghost use Rattle.operation.specs.Decoding.{decodedAt};
 ghost use Rattle.validation.specs.Verdict.{settingsInRange, lengthsInRange, sizeOrTarget, malformed, verdict, nothingRan};
 use integer::boolean::either;
@@ -50,7 +50,7 @@ pub fn verdict(settings: Settings, lengths: Lengths, list: &[u64]) -> Report
 }
 
 // The report of a call in which nothing ran.
-fn nothing_ran(ending: u64, index: u64) -> Report
+pub fn nothing_ran(ending: u64, index: u64) -> Report
     ensures { λ r. ⌜ r ≡ nothingRan ending index ⌝ }
 {
     Report {
@@ -62,7 +62,7 @@ fn nothing_ran(ending: u64, index: u64) -> Report
     }
 }
 
-fn settings_in_range(settings: Settings) -> bool
+pub fn settings_in_range(settings: Settings) -> bool
     ensures { λ r. ⌜ r ≡ settingsInRange settings ⌝ }
 {
     let order = settings.order;
@@ -76,7 +76,7 @@ fn settings_in_range(settings: Settings) -> bool
     address_size <= 8
 }
 
-fn lengths_in_range(lengths: Lengths, list: &[u64]) -> bool
+pub fn lengths_in_range(lengths: Lengths, list: &[u64]) -> bool
     ensures { λ r. ⌜ r ≡ lengthsInRange lengths (now (list .entry)) ⌝ }
 {
     let unique = lengths.unique;
@@ -85,7 +85,7 @@ fn lengths_in_range(lengths: Lengths, list: &[u64]) -> bool
     if list.len() % WORDS_PER_OPERATION != 0 {
         return false;
     }
-    if MOST_OPERATIONS < list.len() / WORDS_PER_OPERATION {
+    if MOST_OPERATIONS < operation_count(list) {
         return false;
     }
     if MOST_BYTES < unique {
@@ -97,12 +97,19 @@ fn lengths_in_range(lengths: Lengths, list: &[u64]) -> bool
     ram <= MOST_BYTES
 }
 
+// n, the number of operations of a list; also the index of its end.
+pub fn operation_count(list: &[u64]) -> usize
+    ensures { λ r. ⌜ r ≡ operationCount (now (list .entry)) ⌝ }
+{
+    list.len() / WORDS_PER_OPERATION
+}
+
 // The first operation in list order that breaks a rule, with the lowest rule that it breaks. Rule 22 is left at once, since no later
 // place can break a lower one; 23 and 24 wait until every place has passed 22.
-fn first_malformed(address_size: u64, lengths: Lengths, list: &[u64]) -> Malformed
+pub fn first_malformed(address_size: u64, lengths: Lengths, list: &[u64]) -> Malformed
     ensures { λ r. ⌜ r ≡ malformed «address_size» lengths (now (list .entry)) ⌝ }
 {
-    let count = list.len() / WORDS_PER_OPERATION;
+    let count = operation_count(list);
     let mut rule: u64 = 0;
     let mut i: usize = 0;
     'operations: while i < count {
@@ -168,7 +175,7 @@ fn size_or_target(address_size: u64, list: &[u64], i: usize) -> u64
     if breaks_size(address_size, opcode, output.size, input0.size, input1.size) {
         return 25;
     }
-    let count = list.len() / WORDS_PER_OPERATION;
+    let count = operation_count(list);
     if breaks_target(count as u64, i as u64, opcode, input0) {
         return 26;
     }

@@ -15,7 +15,7 @@ use crate::random::Random;
 use crate::{gather, scatter, show, validate, value, Spaces};
 
 /// Result words of a check. A call is lent the first few; all of them are compared afterwards.
-const RESULT_WORDS: [u64; 8] = [
+pub(crate) const RESULT_WORDS: [u64; 8] = [
     0xa5a5_5a5a_c3c3_3c3c,
     0xb6b6_6b6b_d4d4_4d4d,
     0xc7c7_7c7c_e5e5_5e5e,
@@ -212,6 +212,14 @@ impl Tally {
     /// How often a number was counted.
     pub fn of(&self, number: u64) -> u64 {
         self.counts.get(&number).copied().unwrap_or(0)
+    }
+
+    /// Fails if one of the numbers was counted less often than it should.
+    pub fn assert_quota(&self, numbers: &[u64], quota: u64) {
+        for &number in numbers {
+            let count = self.of(number);
+            assert!(count >= quota, "{number} came {count} times, and not {quota} times or more");
+        }
     }
 
     /// Fails unless the numbers that were met are these, in rising order: a test of refusals that

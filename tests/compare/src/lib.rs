@@ -3,10 +3,14 @@
 pub mod agreement;
 pub mod inputs;
 pub mod lists;
+pub mod programs;
 pub mod random;
+pub mod runs;
 
-use reference::answers::{Place, ValueCall, VerdictCall};
-use reference::varnode::{Lengths, Varnode};
+use reference::answers::{Place, RunCall, ValueCall, VerdictCall};
+use reference::varnode::Varnode;
+
+pub use reference::memory::Spaces;
 
 // As in include/undrelvoa.h.
 extern "C" {
@@ -64,6 +68,92 @@ extern "C" {
         size: u64,
         place: *mut u64,
         place_len: usize,
+    ) -> u64;
+
+    fn undrelvoa_run(
+        order: u64,
+        address_size: u64,
+        list: *const u64,
+        list_len: usize,
+        start: u64,
+        budget: u32,
+        unique: *mut u8,
+        unique_len: usize,
+        register_space: *mut u8,
+        register_len: usize,
+        ram: *mut u8,
+        ram_len: usize,
+        log: *mut u64,
+        log_len: usize,
+        report: *mut u64,
+        report_len: usize,
+    ) -> u64;
+
+    fn undrelvoa_labelled_run(
+        order: u64,
+        address_size: u64,
+        list: *const u64,
+        list_len: usize,
+        start: u64,
+        budget: u32,
+        unique: *mut u8,
+        unique_len: usize,
+        register_space: *mut u8,
+        register_len: usize,
+        ram: *mut u8,
+        ram_len: usize,
+        unique_labels: *mut u8,
+        unique_labels_len: usize,
+        register_labels: *mut u8,
+        register_labels_len: usize,
+        ram_labels: *mut u8,
+        ram_labels_len: usize,
+        log: *mut u64,
+        log_len: usize,
+        report: *mut u64,
+        report_len: usize,
+    ) -> u64;
+
+    fn undrelvoa_step(
+        order: u64,
+        address_size: u64,
+        list: *const u64,
+        list_len: usize,
+        start: u64,
+        unique: *mut u8,
+        unique_len: usize,
+        register_space: *mut u8,
+        register_len: usize,
+        ram: *mut u8,
+        ram_len: usize,
+        log: *mut u64,
+        log_len: usize,
+        report: *mut u64,
+        report_len: usize,
+    ) -> u64;
+
+    fn undrelvoa_labelled_step(
+        order: u64,
+        address_size: u64,
+        list: *const u64,
+        list_len: usize,
+        start: u64,
+        unique: *mut u8,
+        unique_len: usize,
+        register_space: *mut u8,
+        register_len: usize,
+        ram: *mut u8,
+        ram_len: usize,
+        unique_labels: *mut u8,
+        unique_labels_len: usize,
+        register_labels: *mut u8,
+        register_labels_len: usize,
+        ram_labels: *mut u8,
+        ram_labels_len: usize,
+        log: *mut u64,
+        log_len: usize,
+        report: *mut u64,
+        report_len: usize,
     ) -> u64;
 }
 
@@ -137,33 +227,6 @@ pub fn validate(call: &VerdictCall, report: &mut [u64]) -> u64 {
     }
 }
 
-/// The three spaces of a call, in memory.
-pub struct Spaces {
-    unique: Vec<u8>,
-    register: Vec<u8>,
-    ram: Vec<u8>,
-}
-
-impl Spaces {
-    /// Spaces of these lengths, filled with zeros.
-    pub fn of_lengths(lengths: &Lengths) -> Spaces {
-        let zeros = |len: u64| vec![0; len as usize];
-        Spaces {
-            unique: zeros(lengths.unique),
-            register: zeros(lengths.register),
-            ram: zeros(lengths.ram),
-        }
-    }
-
-    pub fn lengths(&self) -> Lengths {
-        Lengths {
-            unique: self.unique.len() as u64,
-            register: self.register.len() as u64,
-            ram: self.ram.len() as u64,
-        }
-    }
-}
-
 /// The interpreter's answer to a call of `undrelvoa_show`.
 pub fn show(spaces: &Spaces, varnode: &Varnode, place: &mut [u64]) -> u64 {
     // SAFETY: each pointer and length are those of one slice, lent to this call alone; the four
@@ -181,6 +244,139 @@ pub fn show(spaces: &Spaces, varnode: &Varnode, place: &mut [u64]) -> u64 {
             varnode.size,
             place.as_mut_ptr(),
             place.len(),
+        )
+    }
+}
+
+/// The three spaces of a run, or their labels.
+pub struct LentSpaces<'a> {
+    pub unique: &'a mut [u8],
+    pub register: &'a mut [u8],
+    pub ram: &'a mut [u8],
+}
+
+/// The interpreter's answer to a call of `undrelvoa_run`.
+pub fn run(call: &RunCall, memory: LentSpaces, log: &mut [u64], report: &mut [u64]) -> u64 {
+    // SAFETY: each pointer and length are those of one slice, lent to this call alone; the six
+    // slices do not overlap. The pointer of an empty slice is not null.
+    unsafe {
+        undrelvoa_run(
+            call.program.settings.order,
+            call.program.settings.address_size,
+            call.program.list.as_ptr(),
+            call.program.list.len(),
+            call.start,
+            call.budget,
+            memory.unique.as_mut_ptr(),
+            memory.unique.len(),
+            memory.register.as_mut_ptr(),
+            memory.register.len(),
+            memory.ram.as_mut_ptr(),
+            memory.ram.len(),
+            log.as_mut_ptr(),
+            log.len(),
+            report.as_mut_ptr(),
+            report.len(),
+        )
+    }
+}
+
+/// The interpreter's answer to a call of `undrelvoa_labelled_run`.
+pub fn labelled_run(
+    call: &RunCall,
+    memory: LentSpaces,
+    labels: LentSpaces,
+    log: &mut [u64],
+    report: &mut [u64],
+) -> u64 {
+    // SAFETY: each pointer and length are those of one slice, lent to this call alone; the nine
+    // slices do not overlap. The pointer of an empty slice is not null.
+    unsafe {
+        undrelvoa_labelled_run(
+            call.program.settings.order,
+            call.program.settings.address_size,
+            call.program.list.as_ptr(),
+            call.program.list.len(),
+            call.start,
+            call.budget,
+            memory.unique.as_mut_ptr(),
+            memory.unique.len(),
+            memory.register.as_mut_ptr(),
+            memory.register.len(),
+            memory.ram.as_mut_ptr(),
+            memory.ram.len(),
+            labels.unique.as_mut_ptr(),
+            labels.unique.len(),
+            labels.register.as_mut_ptr(),
+            labels.register.len(),
+            labels.ram.as_mut_ptr(),
+            labels.ram.len(),
+            log.as_mut_ptr(),
+            log.len(),
+            report.as_mut_ptr(),
+            report.len(),
+        )
+    }
+}
+
+/// The interpreter's answer to a call of `undrelvoa_step`, which takes no budget.
+pub fn step(call: &RunCall, memory: LentSpaces, log: &mut [u64], report: &mut [u64]) -> u64 {
+    // SAFETY: each pointer and length are those of one slice, lent to this call alone; the six
+    // slices do not overlap. The pointer of an empty slice is not null.
+    unsafe {
+        undrelvoa_step(
+            call.program.settings.order,
+            call.program.settings.address_size,
+            call.program.list.as_ptr(),
+            call.program.list.len(),
+            call.start,
+            memory.unique.as_mut_ptr(),
+            memory.unique.len(),
+            memory.register.as_mut_ptr(),
+            memory.register.len(),
+            memory.ram.as_mut_ptr(),
+            memory.ram.len(),
+            log.as_mut_ptr(),
+            log.len(),
+            report.as_mut_ptr(),
+            report.len(),
+        )
+    }
+}
+
+/// The interpreter's answer to a call of `undrelvoa_labelled_step`, which takes no budget.
+pub fn labelled_step(
+    call: &RunCall,
+    memory: LentSpaces,
+    labels: LentSpaces,
+    log: &mut [u64],
+    report: &mut [u64],
+) -> u64 {
+    // SAFETY: each pointer and length are those of one slice, lent to this call alone; the nine
+    // slices do not overlap. The pointer of an empty slice is not null.
+    unsafe {
+        undrelvoa_labelled_step(
+            call.program.settings.order,
+            call.program.settings.address_size,
+            call.program.list.as_ptr(),
+            call.program.list.len(),
+            call.start,
+            memory.unique.as_mut_ptr(),
+            memory.unique.len(),
+            memory.register.as_mut_ptr(),
+            memory.register.len(),
+            memory.ram.as_mut_ptr(),
+            memory.ram.len(),
+            labels.unique.as_mut_ptr(),
+            labels.unique.len(),
+            labels.register.as_mut_ptr(),
+            labels.register.len(),
+            labels.ram.as_mut_ptr(),
+            labels.ram.len(),
+            log.as_mut_ptr(),
+            log.len(),
+            report.as_mut_ptr(),
+            report.len(),
         )
     }
 }

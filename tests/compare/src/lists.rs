@@ -48,15 +48,15 @@ pub fn good_entry(operation: &Operation, address_size: u64) -> Entry {
 }
 
 /// What a well-formed operation depends on besides its index.
-struct Frame {
-    address_size: u64,
-    lengths: Lengths,
-    count: u64,
+pub(crate) struct Frame {
+    pub address_size: u64,
+    pub lengths: Lengths,
+    pub count: u64,
 }
 
 /// Makes random calls of the judge.
 pub struct Generator {
-    random: Random,
+    pub(crate) random: Random,
     /// The sizes that an operation allows, by address size and opcode, both counted from 1.
     mixes: Vec<Vec<Vec<Sizes>>>,
 }
@@ -100,7 +100,7 @@ impl Generator {
     }
 
     /// A size of a varnode.
-    fn size(&mut self) -> u64 {
+    pub(crate) fn size(&mut self) -> u64 {
         1 + self.random.below(*SIZES.end())
     }
 
@@ -134,7 +134,7 @@ impl Generator {
     }
 
     /// An operation with sizes that go together, if there is room for the varnodes that are drawn.
-    fn entry_with_room(
+    pub(crate) fn entry_with_room(
         &mut self,
         operation: &Operation,
         frame: &Frame,
@@ -179,7 +179,7 @@ impl Generator {
     }
 
     /// A varnode to write, if there is room for one.
-    fn output(&mut self, size: u64, lengths: &Lengths) -> Option<Varnode> {
+    pub(crate) fn output(&mut self, size: u64, lengths: &Lengths) -> Option<Varnode> {
         let space = self.random.pick(&[UNIQUE, REGISTER, RAM]);
         let last = lengths.of(space)?.checked_sub(size)?;
         let offset = if self.random.once_in(4) { last } else { self.random.below(last + 1) };
@@ -187,14 +187,14 @@ impl Generator {
     }
 
     /// A varnode to read, if there is room for one: once in four a constant.
-    fn input(&mut self, size: u64, lengths: &Lengths) -> Option<Varnode> {
+    pub(crate) fn input(&mut self, size: u64, lengths: &Lengths) -> Option<Varnode> {
         if self.random.once_in(4) {
             return Some(self.constant(size));
         }
         self.output(size, lengths)
     }
 
-    fn constant(&mut self, size: u64) -> Varnode {
+    pub(crate) fn constant(&mut self, size: u64) -> Varnode {
         Varnode { space: CONSTANT, offset: self.random.operand(size), size }
     }
 
@@ -224,7 +224,7 @@ impl Generator {
         }
     }
 
-    fn damage_settings(&mut self, settings: &mut Settings) {
+    pub(crate) fn damage_settings(&mut self, settings: &mut Settings) {
         if self.random.once_in(2) {
             settings.order = self.random.pick(&GOOD_AND_BAD_ORDERS);
         } else {
@@ -244,7 +244,7 @@ impl Generator {
     }
 
     /// Takes words away, adds some, or repeats the list until it has one operation too many.
-    fn damage_word_count(&mut self, list: &mut Vec<u64>) {
+    pub(crate) fn damage_word_count(&mut self, list: &mut Vec<u64>) {
         let words = 1 + self.random.below(2 * WORDS_PER_OPERATION as u64) as usize;
         match self.random.below(10) {
             0 if !list.is_empty() => {
@@ -257,7 +257,7 @@ impl Generator {
     }
 
     /// Exchanges two operations, or leaves one out: other targets of branches.
-    fn damage_order(&mut self, list: &mut Vec<u64>) {
+    pub(crate) fn damage_order(&mut self, list: &mut Vec<u64>) {
         let Some((one, other)) = self.index(list).zip(self.index(list)) else {
             return;
         };
@@ -276,7 +276,7 @@ impl Generator {
         (count > 0).then(|| self.random.below(count as u64) as usize)
     }
 
-    fn damage_operation(&mut self, call: &mut VerdictCall) {
+    pub(crate) fn damage_operation(&mut self, call: &mut VerdictCall) {
         let Some(index) = self.index(&call.list) else {
             return;
         };

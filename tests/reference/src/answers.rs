@@ -5,7 +5,9 @@ use std::ops::Range;
 use crate::arithmetic::{fits, value};
 use crate::bytes::{read, write, ByteOrder};
 use crate::fault;
-use crate::opcodes::{Operation, Sizes, ANY_ADDRESS_SIZE};
+use crate::machine::State;
+use crate::opcodes::{Opcode, Operation, Sizes, ANY_ADDRESS_SIZE};
+use crate::run::{observed_run, Program};
 use crate::varnode::{is_operand_size, show, Lengths, Varnode};
 use crate::verdict::{verdict, Settings};
 
@@ -32,6 +34,14 @@ pub struct VerdictCall {
     pub settings: Settings,
     pub lengths: Lengths,
     pub list: Vec<u64>,
+}
+
+/// A program to run, where it starts, and how many operations it may execute.
+#[derive(Clone, Debug)]
+pub struct RunCall {
+    pub program: Program,
+    pub start: u64,
+    pub budget: u32,
 }
 
 /// The value of an operation, for a caller who lends `result_len` result words.
@@ -101,6 +111,20 @@ pub fn verdict_answer(call: &VerdictCall, report_len: usize) -> Result<[u64; 5],
     Ok(verdict(&call.settings, &call.lengths, &call.list).numbers())
 }
 
+/// The report of a run, labelled if the state has labels, for a caller who lends `report_len` report
+/// words. Each operation executed is named to the observer. A refused call leaves the state as it is.
+pub fn run_answer(
+    call: &RunCall,
+    state: &mut State,
+    report_len: usize,
+    observer: impl FnMut(Opcode),
+) -> Result<[u64; 5], u64> {
+    if report_len < 5 {
+        return Err(fault::LENGTH);
+    }
+    Ok(observed_run(&call.program, call.start, call.budget, state, observer).numbers())
+}
+
 /// The space, the offset and the bytes of the part that is shown, all 0 for an empty one, for a
 /// caller who lends `place_len` place words.
 pub fn show_answer(
@@ -126,6 +150,7 @@ fn range_within(place: &Place, len: usize) -> Option<Range<usize>> {
 #[cfg(test)]
 mod tests {
     use super::*;
+    use crate::memory::Spaces;
 
     /// INT_DIV at size 2, 100 by 7.
     const DIVISION: ValueCall = ValueCall {
@@ -218,6 +243,19 @@ mod tests {
         let call = VerdictCall { settings, lengths, list: vec![0; 3] };
         assert_eq!(verdict_answer(&call, 4), Err(11));
         assert_eq!(verdict_answer(&call, 5), Ok([10, 0, 0, 0, 0]));
+    }
+
+    #[test]
+    fn a_run_with_a_short_report_is_refused() {
+        let settings = Settings { order: 0, address_size: 8 };
+        let copy = vec![0x11_21_01, 0, 9, 0, 0];
+        let call = RunCall { program: Program { settings, list: copy }, start: 0, budget: 1 };
+        let memory = Spaces { unique: vec![0], register: vec![], ram: vec![] };
+        let mut state = State { memory, labels: None, log: vec![] };
+        assert_eq!(run_answer(&call, &mut state, 4, |_| ()), Err(11));
+        assert_eq!(state.memory.unique, [0]);
+        assert_eq!(run_answer(&call, &mut state, 5, |_| ()), Ok([0, 1, 1, 0, 0]));
+        assert_eq!(state.memory.unique, [9]);
     }
 
     #[test]

@@ -1,9 +1,11 @@
-//! The numbers that paper 01 gives to faults.
+//! The numbers that paper 01 gives to faults: what a call refuses, and what stops a run.
 
 /// A byte order that is neither 0 nor 1, or an address size that is not 1 to 8.
 pub const SETTING: u64 = 10;
 /// A lent buffer that is too short to hold the result, or a list or a space of a wrong length.
 pub const LENGTH: u64 = 11;
+/// A label that is neither 0 nor 1.
+pub const LABEL: u64 = 12;
 /// An opcode out of range, or a spare head byte that is not zero.
 pub const HEAD: u64 = 21;
 /// A space or a size out of range, or an operand present or absent against the manual.
@@ -16,5 +18,13 @@ pub const RANGE: u64 = 24;
 pub const SIZE: u64 = 25;
 /// A relative branch to outside of the list.
 pub const TARGET: u64 = 26;
+/// A run that starts beyond the end of the list.
+pub const START: u64 = 27;
+/// A secret byte where only public ones may decide.
+pub const LEAK: u64 = 31;
+/// A LOAD or a STORE of bytes beyond the end of their space.
+pub const BOUNDS: u64 = 32;
 /// A divisor of 0.
 pub const ZERO: u64 = 33;
+/// A log word without room.
+pub const LOG: u64 = 34;

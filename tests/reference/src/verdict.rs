@@ -33,7 +33,7 @@ pub struct Report {
 
 impl Report {
     /// The report of a call that ran nothing.
-    fn before_a_run(ending: u64, index: usize) -> Report {
+    pub(crate) fn before_a_run(ending: u64, index: usize) -> Report {
         Report { ending, index: index as u64, executed: 0, log_words: 0, value: 0 }
     }
 
@@ -66,12 +66,12 @@ pub fn verdict(settings: &Settings, lengths: &Lengths, list: &[u64]) -> Report {
 }
 
 /// Rule 10 SETTING.
-fn settings_hold(settings: &Settings) -> bool {
+pub(crate) fn settings_hold(settings: &Settings) -> bool {
     ByteOrder::with_number(settings.order).is_some() && (1..=8).contains(&settings.address_size)
 }
 
 /// Rule 11 LENGTH.
-fn lengths_hold(lengths: &Lengths, words: usize) -> bool {
+pub(crate) fn lengths_hold(lengths: &Lengths, words: usize) -> bool {
     let whole = words.is_multiple_of(WORDS_PER_OPERATION);
     let few = words / WORDS_PER_OPERATION <= MOST_OPERATIONS;
     let spaces = [lengths.unique, lengths.register, lengths.ram];
@@ -86,11 +86,11 @@ struct Surroundings {
 }
 
 /// The varnodes of an operation that keeps rule 22.
-struct Varnodes {
-    output: Option<Varnode>,
-    input0: Varnode,
-    input1: Option<Varnode>,
-    input2: Option<Varnode>,
+pub(crate) struct Varnodes {
+    pub output: Option<Varnode>,
+    pub input0: Varnode,
+    pub input1: Option<Varnode>,
+    pub input2: Option<Varnode>,
 }
 
 impl Varnodes {
@@ -100,7 +100,7 @@ impl Varnodes {
         [self.output, input0, self.input1, self.input2].into_iter().flatten()
     }
 
-    fn sizes(&self) -> Sizes {
+    pub fn sizes(&self) -> Sizes {
         let size = |varnode: Option<Varnode>| varnode.map_or(0, |varnode| varnode.size);
         Sizes { output: size(self.output), input0: self.input0.size, input1: size(self.input1) }
     }
@@ -123,6 +123,13 @@ fn check_operation(surroundings: &Surroundings, index: usize, entry: &Entry) -> 
         return Err(fault::TARGET);
     }
     Ok(())
+}
+
+/// The operation and the varnodes of an entry that keeps rules 21 and 22.
+pub(crate) fn decoded(entry: &Entry) -> Option<(&'static Operation, Varnodes)> {
+    let operation = operation_of_head(entry)?;
+    let varnodes = varnodes_of_shape(operation, entry)?;
+    Some((operation, varnodes))
 }
 
 /// Rule 21 HEAD: the operation of the head, if its opcode has one and its spare bytes are zero.

@@ -26,16 +26,20 @@ returns : tie.Need-returns
 unfolding sizeOrTarget
 returns c = rw (sym (c .before .breaks-size .ensures ∙ same-sizes (c .before .before .before .before .before .before .before .args .address-size) (c .before .before .before .before .before .opcode-at .ensures) (c .before .before .before .before .varnode-at .ensures) (c .before .before .before .varnode-at2 .ensures) (c .before .before .varnode-at3 .ensures)) ∙ c .if1 .taken)
 
+operation-count-requires : tie.Need-operation-count-requires
+operation-count-requires c κs = search needs
+
 breaks-target-requires : tie.Need-breaks-target-requires
+unfolding operationCount
 breaks-target-requires c κs = search needs
 
 returns-2 : tie.Need-returns-2
-unfolding sizeOrTarget operationCount
-returns-2 c = rw (sym (c .before .before .before .breaks-size .ensures ∙ same-sizes (c .before .before .before .before .before .before .before .before .before .args .address-size) (c .before .before .before .before .before .before .before .opcode-at .ensures) (c .before .before .before .before .before .before .varnode-at .ensures) (c .before .before .before .before .before .varnode-at2 .ensures) (c .before .before .before .before .varnode-at3 .ensures)) ∙ c .before .before .if1 .left, sym (c .before .breaks-target .ensures ∙ same-target _ _ (c .before .before .before .before .before .before .before .opcode-at .ensures) (c .before .before .before .before .before .varnode-at2 .ensures)) ∙ c .if2 .taken)
+unfolding sizeOrTarget
+returns-2 c = rw (sym (c .before .before .before .before .breaks-size .ensures ∙ same-sizes (c .before .before .before .before .before .before .before .before .before .before .args .address-size) (c .before .before .before .before .before .before .before .before .opcode-at .ensures) (c .before .before .before .before .before .before .before .varnode-at .ensures) (c .before .before .before .before .before .before .varnode-at2 .ensures) (c .before .before .before .before .before .varnode-at3 .ensures)) ∙ c .before .before .before .if1 .left, sym (c .before .breaks-target .ensures ∙ same-target _ (c .before .before .operation-count .ensures) (c .before .before .before .before .before .before .before .before .opcode-at .ensures) (c .before .before .before .before .before .before .varnode-at2 .ensures)) ∙ c .if2 .taken)
 
 returns-3 : tie.Need-returns-3
-unfolding sizeOrTarget operationCount
-returns-3 c = rw (sym (c .before .before .before .breaks-size .ensures ∙ same-sizes (c .before .before .before .before .before .before .before .before .before .args .address-size) (c .before .before .before .before .before .before .before .opcode-at .ensures) (c .before .before .before .before .before .before .varnode-at .ensures) (c .before .before .before .before .before .varnode-at2 .ensures) (c .before .before .before .before .varnode-at3 .ensures)) ∙ c .before .before .if1 .left, sym (c .before .breaks-target .ensures ∙ same-target _ _ (c .before .before .before .before .before .before .before .opcode-at .ensures) (c .before .before .before .before .before .varnode-at2 .ensures)) ∙ c .if2 .left)
+unfolding sizeOrTarget
+returns-3 c = rw (sym (c .before .before .before .before .breaks-size .ensures ∙ same-sizes (c .before .before .before .before .before .before .before .before .before .before .args .address-size) (c .before .before .before .before .before .before .before .before .opcode-at .ensures) (c .before .before .before .before .before .before .before .varnode-at .ensures) (c .before .before .before .before .before .before .varnode-at2 .ensures) (c .before .before .before .before .before .varnode-at3 .ensures)) ∙ c .before .before .before .if1 .left, sym (c .before .breaks-target .ensures ∙ same-target _ (c .before .before .operation-count .ensures) (c .before .before .before .before .before .before .before .before .opcode-at .ensures) (c .before .before .before .before .before .before .varnode-at2 .ensures)) ∙ c .if2 .left)
 
 pub size-or-target-spec : {M : Type 1} → statement M
 size-or-target-spec =
@@ -47,6 +51,7 @@ size-or-target-spec =
     varnode-at-requires-3
     breaks-size-requires
     returns
+    operation-count-requires
     breaks-target-requires
     returns-2
     returns-3)

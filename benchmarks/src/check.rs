@@ -1,0 +1,102 @@
+//! Checks that the two interpreters do the same: the loops, shorter, and every integer operation.
+
+use crate::library::{labelled_run, run, Labels, Program, State};
+use crate::loops::loops;
+use crate::rust_run;
+
+const OPERATIONS: u32 = 1_000;
+
+/// Runs a program on both, and with public labels. Gives back the report.
+fn check(program: &Program, budget: u32, state: &State) -> [u64; 5] {
+    let mut proved = state.clone();
+    let mut rust = state.clone();
+    let mut labelled = state.clone();
+    let mut labels = Labels::public(state);
+    let report = run(program, budget, &mut proved);
+    assert_eq!(rust_run(program, budget, &mut rust), report, "{:x?}", program.list);
+    assert_eq!(rust, proved, "{:x?}", program.list);
+    assert_eq!(labelled_run(program, budget, &mut labelled, &mut labels), report);
+    assert_eq!(labelled, proved, "{:x?}", program.list);
+    assert_eq!(labels, Labels::public(state));
+    report
+}
+
+#[test]
+fn loops_agree() {
+    for timed in loops(OPERATIONS) {
+        let [ending, _, executed, log_words, value] =
+            check(&timed.program, OPERATIONS, &timed.state);
+        assert_eq!([ending, executed, value], [2, u64::from(OPERATIONS), 0], "{}", timed.name);
+        assert!(log_words > 0, "{} wrote no log word", timed.name);
+    }
+}
+
+#[test]
+fn a_full_log_and_a_pointer_beyond_ram_stop_both() {
+    for timed in loops(100) {
+        assert_eq!(check(&timed.program, OPERATIONS, &timed.state)[0], 34, "{}", timed.name);
+    }
+    let [_, copying] = loops(OPERATIONS);
+    let mut state = copying.state;
+    state.ram.truncate(32_768 + 20);
+    assert_eq!(check(&copying.program, OPERATIONS, &state)[0], 32);
+}
+
+/// The sizes of output, input0 and input1 of an integer operation whose input0 has this size, if it
+/// can have it. An absent input1 has size 0.
+fn sizes(opcode: u64, size: u64) -> Option<[u64; 3]> {
+    let sizes = match opcode {
+        10 => [size + 1, size, 1],
+        11 => [1.max(size - 1), size, 1],
+        12 => [1, size, 0],
+        13..=18 | 23..=25 => [1, size, size],
+        19 | 20 => [size + 1, size, 0],
+        26 | 27 => [size, size, 0],
+        31..=33 => [size, size, 1],
+        39 => [1, 1, 0],
+        40..=42 => [1, 1, 1],
+        _ => [size, size, size],
+    };
+    (sizes[0] <= 8).then_some(sizes)
+}
+
+/// One operation from ram and unique into register, or, for SUBPIECE, by a constant.
+fn operation(opcode: u64, [output, input0, input1]: [u64; 3], amount: u64) -> [u64; 5] {
+    let register = 0x30 + output;
+    let ram = 0x40 + input0;
+    let (second, offset) = match (opcode, input1) {
+        (_, 0) => (0, 0),
+        (11, _) => (0x11, amount),
+        _ => (0x20 + input1, 0),
+    };
+    [opcode + (register << 8) + (ram << 16) + (second << 24), 0, 0, offset, 0]
+}
+
+#[test]
+fn integer_operations_agree() {
+    const BYTES: [u8; 6] = [0, 1, 2, 0x7f, 0x80, 0xff];
+    let mut divisions_by_zero = 0;
+    for opcode in 10..=42 {
+        for sizes in (1..=8).filter_map(|size| sizes(opcode, size)) {
+            for order in [0, 1] {
+                for (a, b) in BYTES.iter().flat_map(|a| BYTES.iter().map(move |b| (a, b))) {
+                    let list = operation(opcode, sizes, u64::from(b % 16)).to_vec();
+                    let program = Program { order, address_size: 4, list };
+                    let mut state = State {
+                        unique: vec![0; 8],
+                        register: vec![9; 9],
+                        ram: vec![*a; 8],
+                        log: vec![],
+                    };
+                    // The low byte is the last one or the first.
+                    let low = if order == 1 { sizes[2].max(1) - 1 } else { 0 };
+                    state.unique[low as usize] = *b;
+                    let [ending, ..] = check(&program, 1, &state);
+                    divisions_by_zero += u64::from(ending == 33);
+                    assert!(ending == 0 || ending == 33, "ending {ending} of opcode {opcode}");
+                }
+            }
+        }
+    }
+    assert!(divisions_by_zero > 0, "no division by 0 was tried");
+}

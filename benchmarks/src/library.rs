@@ -1,0 +1,153 @@
+//! The proved interpreter, through its C interface.
+
+// As in include/undrelvoa.h.
+extern "C" {
+    fn undrelvoa_run(
+        order: u64,
+        address_size: u64,
+        list: *const u64,
+        list_len: usize,
+        start: u64,
+        budget: u32,
+        unique: *mut u8,
+        unique_len: usize,
+        register_space: *mut u8,
+        register_len: usize,
+        ram: *mut u8,
+        ram_len: usize,
+        log: *mut u64,
+        log_len: usize,
+        report: *mut u64,
+        report_len: usize,
+    ) -> u64;
+
+    fn undrelvoa_labelled_run(
+        order: u64,
+        address_size: u64,
+        list: *const u64,
+        list_len: usize,
+        start: u64,
+        budget: u32,
+        unique: *mut u8,
+        unique_len: usize,
+        register_space: *mut u8,
+        register_len: usize,
+        ram: *mut u8,
+        ram_len: usize,
+        unique_labels: *mut u8,
+        unique_labels_len: usize,
+        register_labels: *mut u8,
+        register_labels_len: usize,
+        ram_labels: *mut u8,
+        ram_labels_len: usize,
+        log: *mut u64,
+        log_len: usize,
+        report: *mut u64,
+        report_len: usize,
+    ) -> u64;
+}
+
+/// A list to run from its first operation on.
+#[derive(Clone)]
+pub struct Program {
+    pub order: u64,
+    pub address_size: u64,
+    pub list: Vec<u64>,
+}
+
+/// What a run reads and writes.
+#[derive(Clone, PartialEq, Eq, Debug)]
+pub struct State {
+    pub unique: Vec<u8>,
+    pub register: Vec<u8>,
+    pub ram: Vec<u8>,
+    pub log: Vec<u64>,
+}
+
+/// One label for each byte of each space.
+#[derive(Clone, PartialEq, Eq, Debug)]
+pub struct Labels {
+    pub unique: Vec<u8>,
+    pub register: Vec<u8>,
+    pub ram: Vec<u8>,
+}
+
+impl Labels {
+    /// Public labels only.
+    pub fn public(state: &State) -> Labels {
+        Labels {
+            unique: vec![0; state.unique.len()],
+            register: vec![0; state.register.len()],
+            ram: vec![0; state.ram.len()],
+        }
+    }
+}
+
+/// The report of a plain run.
+pub fn run(program: &Program, budget: u32, state: &mut State) -> [u64; 5] {
+    let mut report = [0; 5];
+    // SAFETY: each pointer and length are those of one buffer, lent to this call alone; the buffers
+    // do not overlap. The pointer of an empty one is not null.
+    let answer = unsafe {
+        undrelvoa_run(
+            program.order,
+            program.address_size,
+            program.list.as_ptr(),
+            program.list.len(),
+            0,
+            budget,
+            state.unique.as_mut_ptr(),
+            state.unique.len(),
+            state.register.as_mut_ptr(),
+            state.register.len(),
+            state.ram.as_mut_ptr(),
+            state.ram.len(),
+            state.log.as_mut_ptr(),
+            state.log.len(),
+            report.as_mut_ptr(),
+            report.len(),
+        )
+    };
+    assert_eq!(answer, 0, "a run with a report of five words was refused");
+    report
+}
+
+/// The report of a labelled run.
+pub fn labelled_run(
+    program: &Program,
+    budget: u32,
+    state: &mut State,
+    labels: &mut Labels,
+) -> [u64; 5] {
+    let mut report = [0; 5];
+    // SAFETY: each pointer and length are those of one buffer, lent to this call alone; the buffers
+    // do not overlap. The pointer of an empty one is not null.
+    let answer = unsafe {
+        undrelvoa_labelled_run(
+            program.order,
+            program.address_size,
+            program.list.as_ptr(),
+            program.list.len(),
+            0,
+            budget,
+            state.unique.as_mut_ptr(),
+            state.unique.len(),
+            state.register.as_mut_ptr(),
+            state.register.len(),
+            state.ram.as_mut_ptr(),
+            state.ram.len(),
+            labels.unique.as_mut_ptr(),
+            labels.unique.len(),
+            labels.register.as_mut_ptr(),
+            labels.register.len(),
+            labels.ram.as_mut_ptr(),
+            labels.ram.len(),
+            state.log.as_mut_ptr(),
+            state.log.len(),
+            report.as_mut_ptr(),
+            report.len(),
+        )
+    };
+    assert_eq!(answer, 0, "a run with a report of five words was refused");
+    report
+}

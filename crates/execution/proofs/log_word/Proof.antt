@@ -1,0 +1,23 @@
+-- `execution::log_word` meets its contract. Assumes nothing.
+use Rattle.machine.specs.Run.{logWord}
+use mathlib.Core.Path.{refl}
+use borrow.Author.Needs.{needs}
+use Rattle.execution.proofs.log_word.Statement.{statement}
+use Rattle.execution.proofs.log_word.Tie as tie
+use Rattle.execution.proofs.log_word.Lts as lts
+
+-- src/run.rt:80:5
+mul-result : tie.Need-mul-result
+mul-result c = search needs
+
+-- src/run.rt:80:5
+add-result : tie.Need-add-result
+add-result c = search needs
+
+-- src/run.rt:76:1
+returns : tie.Need-returns
+unfolding logWord
+returns c = refl
+
+pub log-word-spec : {M : Type 1} → statement M
+log-word-spec = tie.close (tie.spec mul-result add-result returns)

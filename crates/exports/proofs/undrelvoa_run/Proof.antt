@@ -1,0 +1,27 @@
+-- `exports::undrelvoa_run` meets its contract. Assumes nothing.
+use Rattle.exports.proofs.undrelvoa_run.Statement.{statement}
+use Rattle.exports.proofs.undrelvoa_run.Tie as tie
+
+run-requires : tie.Need-run-requires
+run-requires c κs = tt
+
+same-length : tie.Need-same-length
+same-length c = c .before .before .before .before .before .before .before .before .before .before .run .kept .1 .1 .1 .1 .1 .0
+
+same-length-2 : tie.Need-same-length-2
+same-length-2 c = c .before .before .before .before .before .before .before .before .before .before .run .kept .1 .1 .1 .1 .1 .1 .0
+
+same-length-3 : tie.Need-same-length-3
+same-length-3 c = c .before .before .before .before .before .before .before .before .before .before .run .kept .1 .1 .1 .1 .1 .1 .1 .0
+
+same-length-4 : tie.Need-same-length-4
+same-length-4 c = c .before .before .before .before .before .before .before .before .before .before .run .kept .1 .1 .1 .1 .1 .1 .1 .1 .0
+
+same-length-5 : tie.Need-same-length-5
+same-length-5 c = c .before .before .before .before .before .before .before .before .before .before .run .kept .1 .1 .1 .1 .1 .1 .1 .1 .1 .0
+
+returns : tie.Need-returns
+returns c = c .before .before .before .before .before .before .before .before .before .before .run .ensures
+
+pub undrelvoa-run-spec : {M : Type 1} → statement M
+undrelvoa-run-spec = tie.close (tie.spec run-requires same-length same-length-2 same-length-3 same-length-4 same-length-5 returns)

@@ -1,0 +1,62 @@
+-- `exports_runs::labelled_run` meets its contract. Assumes nothing.
+use mathlib.Core.Path.{refl, ap}
+use borrow.Author.Needs.{needs}
+use borrow.Author.Tests.{le-leb, lt-leb}
+use Rattle.exports_runs.specs.Buffers.{roomFault, after}
+use Rattle.exports_runs.proofs.labelled_run.Statement.{statement}
+use Rattle.exports_runs.proofs.labelled_run.Tie as tie
+
+returns : tie.Need-returns
+unfolding roomFault
+returns c = (rw (lt-leb 5 _ (c .if1 .taken)), refl)
+
+labelled-run-requires : tie.Need-labelled-run-requires
+labelled-run-requires c κs = search needs
+
+write-report-requires : tie.Need-write-report-requires
+write-report-requires c κs = search needs
+
+same-length : tie.Need-same-length
+same-length c = search needs
+
+same-length-2 : tie.Need-same-length-2
+same-length-2 c = search needs
+
+same-length-3 : tie.Need-same-length-3
+same-length-3 c = search needs
+
+same-length-4 : tie.Need-same-length-4
+same-length-4 c = search needs
+
+same-length-5 : tie.Need-same-length-5
+same-length-5 c = search needs
+
+same-length-6 : tie.Need-same-length-6
+same-length-6 c = search needs
+
+same-length-7 : tie.Need-same-length-7
+same-length-7 c = search needs
+
+same-length-8 : tie.Need-same-length-8
+same-length-8 c = search needs
+
+returns-2 : tie.Need-returns-2
+unfolding roomFault after
+returns-2 c = (rw (le-leb 5 _ (c .before .before .before .before .before .before .before .before .before .before .before .before .before .before .before .before .before .before .before .before .before .before .before .before .before .before .if1 .left)), rw (c .before .before .write-report .ensures) (ap (after _) (c .before .before .before .before .before .before .before .before .before .before .before .before .before .before .before .before .before .before .labelled-run .ensures)))
+
+pub labelled-run-spec : {M : Type 1} → statement M
+labelled-run-spec =
+    tie.close
+    (tie.spec
+    returns
+    labelled-run-requires
+    write-report-requires
+    same-length
+    same-length-2
+    same-length-3
+    same-length-4
+    same-length-5
+    same-length-6
+    same-length-7
+    same-length-8
+    returns-2)

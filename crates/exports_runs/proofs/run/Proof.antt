@@ -1,0 +1,50 @@
+-- `exports_runs::run` meets its contract. Assumes nothing.
+use mathlib.Core.Path.{refl, ap}
+use borrow.Author.Needs.{needs}
+use borrow.Author.Tests.{le-leb, lt-leb}
+use Rattle.exports_runs.specs.Buffers.{roomFault, after}
+use Rattle.exports_runs.proofs.run.Statement.{statement}
+use Rattle.exports_runs.proofs.run.Tie as tie
+
+returns : tie.Need-returns
+unfolding roomFault
+returns c = (rw (lt-leb 5 _ (c .if1 .taken)), refl)
+
+run-requires : tie.Need-run-requires
+run-requires c κs = search needs
+
+write-report-requires : tie.Need-write-report-requires
+write-report-requires c κs = search needs
+
+same-length : tie.Need-same-length
+same-length c = search needs
+
+same-length-2 : tie.Need-same-length-2
+same-length-2 c = search needs
+
+same-length-3 : tie.Need-same-length-3
+same-length-3 c = search needs
+
+same-length-4 : tie.Need-same-length-4
+same-length-4 c = search needs
+
+same-length-5 : tie.Need-same-length-5
+same-length-5 c = search needs
+
+returns-2 : tie.Need-returns-2
+unfolding roomFault after
+returns-2 c = (rw (le-leb 5 _ (c .before .before .before .before .before .before .before .before .before .before .before .before .before .before .before .before .before .if1 .left)), rw (c .before .before .write-report .ensures) (ap (after _) (c .before .before .before .before .before .before .before .before .before .before .before .before .run .ensures)))
+
+pub run-spec : {M : Type 1} → statement M
+run-spec =
+    tie.close
+    (tie.spec
+    returns
+    run-requires
+    write-report-requires
+    same-length
+    same-length-2
+    same-length-3
+    same-length-4
+    same-length-5
+    returns-2)

@@ -1,0 +1,78 @@
+-- What a call that is not refused may rely on, and what a call leaves. Assumes nothing.
+use Prim.Native.Nat.{ℕ, _≤_, _<_}
+use mathlib.Core.Bool.{Bool, true, false, cond, not, _&&_}
+use mathlib.Core.List.{List}
+use mathlib.Core.Path.{_≡_, refl}
+use native.Mathlib.Nat.{sub-zero}
+use native.Mathlib.Omega.{arith}
+use borrow.Author.Tests.{eq-eqb, ne-eqb, eqb-true, eqb-false, ltb-false, not-true, not-false}
+use lib.Dec.{eqb, ltb}
+use Rattle.integer.proofs.Booleans.{both}
+use Rattle.operation.specs.declared.layout.Settings.{Settings}
+use Rattle.operation.specs.declared.layout.Lengths.{Lengths}
+use Rattle.operation.specs.declared.report.Report.{Report}
+use Rattle.operation.specs.Layout.{operationCount}
+use Rattle.validation.specs.declared.Malformed.{Malformed}
+use Rattle.validation.specs.Verdict.{settingsInRange, lengthsInRange, malformed, nothingRan, verdict}
+use Rattle.validation.proofs.WellFormed.{verdict-zero}
+use Rattle.machine.specs.Memory.{Memory}
+use Rattle.machine.specs.Run.{run}
+use Rattle.machine.specs.Calls.{sameLengths, refusal, starting, outcomeOf, called}
+use Rattle.plan.specs.Valid.{Valid}
+use Rattle.execution.specs.Loops.{position}
+
+-- a refusal that was not called for, and the refusals after it
+not-refused : (t : Bool) (n i : ℕ) (rest : Report) → (t ≡ true → 0 < n) → cond t (nothingRan n i) rest .ending ≡ 0 → (t ≡ false) × (rest .ending ≡ 0)
+unfolding nothingRan
+not-refused true n i rest h e = absurd (let l : 0 < n = h refl in let z : ⊥ = omega (arith, l, e) in z)
+not-refused false n i rest h e = (refl, e)
+
+-- where nothing is refused, the loops may run, and no label calls for 11 or 12
+pub accepted : (settings : Settings) (lengths : Lengths) (list : List ℕ) (start : ℕ) (fitting valid : Bool) (found : Report)
+    → found ≡ refusal settings lengths list start fitting valid → found .ending ≡ 0
+    → Valid lengths list × (start ≤ operationCount list) × (fitting ≡ true) × (valid ≡ true)
+unfolding refusal verdict nothingRan
+accepted settings lengths list start fitting valid found f e =
+    let t1 = not-refused (not (settingsInRange settings)) 10 0 _ (λ h. omega arith) (rw f at e) in
+    let t2 = not-refused (not (lengthsInRange lengths list && fitting)) 11 0 _ (λ h. omega arith) (t1 .1) in
+    let t3 = not-refused (not valid) 12 0 _ (λ h. omega arith) (t2 .1) in
+    let t4 = not-refused (not (eqb (first .rule) 0)) (first .rule) (first .index) _ nonzero (t3 .1) in
+    let t5 = not-refused (ltb (operationCount list) start) 27 0 (nothingRan 0 0) (λ h. omega arith) (t4 .1) in
+    let l = both (lengthsInRange lengths list) fitting (not-false _ (t2 .0)) in
+    let v = verdict-zero settings lengths list (no-ending (not-false _ (t1 .0)) (l .0) (eqb-true (first .rule) 0 (not-false _ (t4 .0)))) in (
+      record { addressSize = settings .«address_size»; inRange = l .0; operations = v .2 },
+      ltb-false (operationCount list) start (t5 .0),
+      l .1,
+      not-false valid (t3 .0),
+    )
+  where
+    first : Malformed
+    first = malformed (settings .«address_size») lengths list
+
+    nonzero : not (eqb (first .rule) 0) ≡ true → 0 < first .rule
+    nonzero h = let n : first .rule ≡ 0 → ⊥ = eqb-false (first .rule) 0 (not-true _ h) in omega arith
+
+    no-ending : settingsInRange settings ≡ true → lengthsInRange lengths list ≡ true → first .rule ≡ 0 → verdict settings lengths list .ending ≡ 0
+    no-ending s l r = rw (s, l) r
+
+-- ---- what a call leaves
+
+module _ (settings : Settings) (list : List ℕ) (start budget : ℕ) (log : List ℕ) (labels m : Memory) (found refused : Report) (f : found ≡ refused) where
+  pub leaves-as-lent : (found .ending ≡ 0 → ⊥)
+      → record { report = found; memory = m; labels = labels; log = log } ≡ called settings list start budget log labels m refused
+  unfolding called
+  leaves-as-lent h = rw (← f, ne-eqb (found .ending) 0 h) refl
+
+  pub leaves-run : found .ending ≡ 0
+      → outcomeOf log (run (eqb (settings .order) 1) list budget (position start 0 0 log) labels m) ≡ called settings list start budget log labels m refused
+  unfolding called position starting
+  leaves-run h = rw (← f, eq-eqb (found .ending) 0 h, sub-zero) refl
+
+-- ---- labels
+
+pub same-lengths-are : (a b : Lengths) → sameLengths a b ≡ true → a ≡ b
+unfolding sameLengths
+same-lengths-are a b e =
+    let r = both (eqb (a .unique) (b .unique) && eqb (a .register) (b .register)) (eqb (a .ram) (b .ram)) e in
+    let u = both (eqb (a .unique) (b .unique)) (eqb (a .register) (b .register)) (r .0) in
+    rw (eqb-true (a .unique) (b .unique) (u .0), eqb-true (a .register) (b .register) (u .1), eqb-true (a .ram) (b .ram) (r .1)) refl

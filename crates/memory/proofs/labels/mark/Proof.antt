@@ -1,0 +1,74 @@
+-- `memory::labels::mark` meets its contract. Assumes nothing.
+use mathlib.Core.Path.{sym}
+use borrow.Author.Needs.{needs}
+use lib.Dec.{lit≤}
+use Rattle.machine.specs.Memory.{spaceOf, withSpace}
+use Rattle.memory.proofs.Spaces.{placed-in, written-in, written-elsewhere}
+use Rattle.memory.proofs.labels.mark.Statement.{statement}
+use Rattle.memory.proofs.labels.mark.Tie as tie
+
+label-of-requires : tie.Need-label-of-requires
+label-of-requires c κs = search needs
+
+fill-requires : tie.Need-fill-requires
+unfolding spaceOf
+fill-requires c κs =
+    placed-in _ _ 2 (c .before .match .keys1) (lit≤ tt) (c .before .before .before .before .before .before .pre)
+
+fill-requires-2 : tie.Need-fill-requires-2
+unfolding spaceOf
+fill-requires-2 c κs =
+    placed-in _ _ 3 (c .before .match .keys2) (lit≤ tt) (c .before .before .before .before .before .before .pre)
+
+fill-requires-3 : tie.Need-fill-requires-3
+unfolding spaceOf
+fill-requires-3 c κs =
+    placed-in _ _ 4 (c .before .match .keys3) (lit≤ tt) (c .before .before .before .before .before .before .pre)
+
+same-length : tie.Need-same-length
+same-length c = search needs
+
+returns : tie.Need-returns
+unfolding spaceOf withSpace
+returns c =
+    rw (← c .before .before .before .before .before .label-of .ensures)
+    (written-in _ _ 2 (c .before .before .before .before .match .keys1) _ _ (c .before .before .fill .ensures))
+
+same-length-2 : tie.Need-same-length-2
+same-length-2 c = search needs
+
+returns-2 : tie.Need-returns-2
+unfolding spaceOf withSpace
+returns-2 c =
+    rw (← c .before .before .before .before .before .label-of .ensures)
+    (written-in _ _ 3 (c .before .before .before .before .match .keys2) _ _ (c .before .before .fill2 .ensures))
+
+same-length-3 : tie.Need-same-length-3
+same-length-3 c = search needs
+
+returns-3 : tie.Need-returns-3
+unfolding spaceOf withSpace
+returns-3 c =
+    rw (← c .before .before .before .before .before .label-of .ensures)
+    (written-in _ _ 4 (c .before .before .before .before .match .keys3) _ _ (c .before .before .fill3 .ensures))
+
+returns-4 : tie.Need-returns-4
+returns-4 c =
+    let r = c .match .rest in
+    sym (written-elsewhere _ _ (r .0 .0 .1) (r .0 .1) (r .1) _)
+
+pub mark-spec : {M : Type 1} → statement M
+mark-spec =
+    tie.close
+    (tie.spec
+    label-of-requires
+    fill-requires
+    fill-requires-2
+    fill-requires-3
+    same-length
+    returns
+    same-length-2
+    returns-2
+    same-length-3
+    returns-3
+    returns-4)

@@ -1,0 +1,67 @@
+-- `memory::varnode::write` meets its contract. Assumes nothing.
+use mathlib.Core.Path.{sym}
+use borrow.Author.Needs.{needs}
+use lib.Dec.{lit≤}
+use Rattle.machine.specs.Memory.{spaceOf, withSpace}
+use Rattle.memory.proofs.Spaces.{placed-in, written-in, written-elsewhere}
+use Rattle.memory.proofs.varnode.write.Statement.{statement}
+use Rattle.memory.proofs.varnode.write.Tie as tie
+
+scatter-requires : tie.Need-scatter-requires
+unfolding spaceOf
+scatter-requires c κs =
+    let p = c .before .before .before .before .before .pre in
+    (p .size, placed-in _ _ 2 (c .before .match .keys1) (lit≤ tt) p)
+
+scatter-requires-2 : tie.Need-scatter-requires-2
+unfolding spaceOf
+scatter-requires-2 c κs =
+    let p = c .before .before .before .before .before .pre in
+    (p .size, placed-in _ _ 3 (c .before .match .keys2) (lit≤ tt) p)
+
+scatter-requires-3 : tie.Need-scatter-requires-3
+unfolding spaceOf
+scatter-requires-3 c κs =
+    let p = c .before .before .before .before .before .pre in
+    (p .size, placed-in _ _ 4 (c .before .match .keys3) (lit≤ tt) p)
+
+same-length : tie.Need-same-length
+same-length c = search needs
+
+returns : tie.Need-returns
+unfolding spaceOf withSpace
+returns c = written-in _ _ 2 (c .before .before .before .before .match .keys1) _ _ (c .before .before .scatter .ensures)
+
+same-length-2 : tie.Need-same-length-2
+same-length-2 c = search needs
+
+returns-2 : tie.Need-returns-2
+unfolding spaceOf withSpace
+returns-2 c = written-in _ _ 3 (c .before .before .before .before .match .keys2) _ _ (c .before .before .scatter2 .ensures)
+
+same-length-3 : tie.Need-same-length-3
+same-length-3 c = search needs
+
+returns-3 : tie.Need-returns-3
+unfolding spaceOf withSpace
+returns-3 c = written-in _ _ 4 (c .before .before .before .before .match .keys3) _ _ (c .before .before .scatter3 .ensures)
+
+returns-4 : tie.Need-returns-4
+returns-4 c =
+    let r = c .match .rest in
+    sym (written-elsewhere _ _ (r .0 .0 .1) (r .0 .1) (r .1) _)
+
+pub write-spec : {M : Type 1} → statement M
+write-spec =
+    tie.close
+    (tie.spec
+    scatter-requires
+    scatter-requires-2
+    scatter-requires-3
+    same-length
+    returns
+    same-length-2
+    returns-2
+    same-length-3
+    returns-3
+    returns-4)

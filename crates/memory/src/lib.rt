@@ -1,0 +1,3 @@
+// Varnodes over the three lent spaces, and over their labels.
+pub mod labels;
+pub mod varnode;

@@ -1,0 +1,48 @@
+// The value of a varnode, read from and written to the three lent spaces.
+ghost use mathlib.Core.Path.{_≡_};
+ghost use Rattle.word.specs.Word.{bytesOf};
+ghost use Rattle.machine.specs.Memory.{spaces, valueAt, written};
+ghost use Rattle.memory.specs.Placed.{Placed};
+use operation::layout::Varnode;
+use word::bytes::gather;
+use word::bytes::scatter;
+
+// The value of a varnode; an absent one has 0.
+pub fn read(big: bool, unique: &[u8], register: &[u8], ram: &[u8], v: Varnode) -> u64
+    requires { ⌜ Placed (spaces (now unique) (now register) (now ram)) v ⌝ }
+    ensures { λ r. ⌜ r ≡ valueAt big (spaces (now (unique .entry)) (now (register .entry)) (now (ram .entry))) v ⌝ }
+{
+    let space = v.space;
+    let at = v.offset as usize;
+    let size = v.size as usize;
+    match space {
+        2 => gather(big, unique, at, size),
+        3 => gather(big, register, at, size),
+        4 => gather(big, ram, at, size),
+        _ => v.offset,
+    }
+}
+
+// Writes a value to a varnode; to an absent one, nothing.
+pub fn write(
+    big: bool,
+    unique: &mut [u8],
+    register: &mut [u8],
+    ram: &mut [u8],
+    v: Varnode,
+    value: u64,
+)
+    requires { ⌜ Placed (spaces (now unique) (now register) (now ram)) v ⌝ }
+    ensures { λ _. ⌜ spaces (now (unique .exit)) (now (register .exit)) (now (ram .exit))
+        ≡ written (spaces (now (unique .entry)) (now (register .entry)) (now (ram .entry))) v (bytesOf big (v .size) value) ⌝ }
+{
+    let space = v.space;
+    let at = v.offset as usize;
+    let size = v.size as usize;
+    match space {
+        2 => scatter(big, unique, at, size, value),
+        3 => scatter(big, register, at, size, value),
+        4 => scatter(big, ram, at, size, value),
+        _ => {}
+    }
+}

@@ -1,0 +1,4 @@
+pub mod Places
+pub mod Planning
+pub mod Steps
+pub mod Bounds

@@ -1,0 +1,158 @@
+-- What a well-formed operation gives the code: where it may read, what it may move and what it may compute. Assumes nothing.
+use Prim.Native.Nat.{ℕ, _+_, _*_, _%_, _^_, _≤_, _<_}
+use native.Mathlib.Nat.{div-mul-le-self}
+use mathlib.Core.Path.{_≡_, refl, sym}
+use mathlib.Core.Bool.{Bool, true, false, cond, not, _&&_, _||_}
+use mathlib.Core.List.{List, []}
+use native.Mathlib.Omega.{arith}
+use borrow.Author.Tests.{eqb-false, leb-true, ne-eqb, not-false}
+use lib.Dec.{eqb, leb}
+use lib.ListN.{length}
+use Rattle.word.specs.Word.{Bytes}
+use Rattle.integer.proofs.Booleans.{both, neither}
+use Rattle.arithmetic.specs.Operands.{among, sizesAgree}
+use Rattle.operation.specs.declared.layout.Lengths.{Lengths}
+use Rattle.operation.specs.Layout.{wordsPerOperation, operationCount, opcodeAt, varnodeAt}
+use Rattle.operation.specs.Shapes.{hasPlace}
+use Rattle.operation.specs.Rules.{accesses, branches, jumps, namesSpace, breaksPlace, lengthOf, breaksSize}
+use Rattle.operation.proofs.Tables.{data-shape}
+use Rattle.validation.specs.Verdict.{mostOperations, mostBytes, lengthsInRange}
+use Rattle.validation.specs.WellFormed.{WellFormed}
+use Rattle.machine.specs.Memory.{Memory, OfBytes, spaces, lengthsOf, spaceOf, valueAt}
+use Rattle.machine.specs.Effect.{operationAt, absent}
+use Rattle.machine.specs.Conditions.{Words}
+use Rattle.machine.proofs.Conditions.{Formed, formed, when}
+use Rattle.machine.proofs.Cases.{either}
+use Rattle.memory.specs.Placed.{Placed}
+use Rattle.plan.specs.Valid.{Valid}
+use Rattle.plan.specs.Plans.{Computable, Movable}
+
+-- three lent buffers hold bytes
+pub of-bytes : (unique register ram : List ℕ) → Bytes unique → Bytes register → Bytes ram → OfBytes (spaces unique register ram)
+unfolding spaceOf
+of-bytes unique register ram u r m space =
+    either Bytes (eqb space 2) _ _ u (either Bytes (eqb space 3) _ _ r (either Bytes (eqb space 4) _ _ m (λ i. omega arith)))
+
+pub space-length : (m : Memory) (space : ℕ) → lengthOf (lengthsOf m) space ≡ length (spaceOf m space)
+unfolding lengthOf lengthsOf spaceOf
+space-length m space = by (eqb space 2) (eqb space 3) (eqb space 4)
+  where
+    by : (p q r : Bool) → cond p (length (m .unique)) (cond q (length (m .register)) (cond r (length (m .ram)) 0)) ≡ length (cond p (m .unique) (cond q (m .register) (cond r (m .ram) [])))
+    by true q r = refl
+    by false true r = refl
+    by false false true = refl
+    by false false false = refl
+
+five : (n : ℕ) → 1 ≤ n → (n ≡ 1 → ⊥) → (n ≡ 2 → ⊥) → (n ≡ 3 → ⊥) → (n ≡ 4 → ⊥) → 5 ≤ n
+five n l n1 n2 n3 n4 = omega arith
+
+ten-from : (n : ℕ) → 5 ≤ n → (n ≡ 5 → ⊥) → (n ≡ 6 → ⊥) → (n ≡ 7 → ⊥) → (n ≡ 8 → ⊥) → (n ≡ 9 → ⊥) → 10 ≤ n
+ten-from n l n5 n6 n7 n8 n9 = omega arith
+
+not-conditional : (n : ℕ) → branches n ≡ false → eqb n 5 ≡ false
+unfolding branches among
+not-conditional n b = neither (eqb n 5) (eqb n 7 || false) (neither (eqb n 4) (eqb n 5 || (eqb n 7 || false)) b .1) .0
+
+accesses-no-branch : (n : ℕ) → accesses n ≡ true → branches n ≡ false
+unfolding accesses branches among
+accesses-no-branch n a =
+    when n 2 (λ e. rw e refl) (λ n2. when n 3 (λ e. rw e refl) (λ n3. absurd (let f : false ≡ true = rw (n2, n3) at a in let z : _≡_ {A = ℕ} 0 1 = cc in omega arith)))
+
+module _ (m : Memory) (addressSize : ℕ) (list : List ℕ) (i : ℕ) (w : WellFormed addressSize (lengthsOf m) list i) where
+  pub placed : (place : ℕ) → place ≤ 3 → (place ≡ 1 → branches (opcodeAt list i) ≡ false) → Placed m (varnodeAt list i place)
+  unfolding absent
+  placed place h exempt = by (hasPlace (opcodeAt list i) place) refl
+    where
+      by : (t : Bool) → hasPlace (opcodeAt list i) place ≡ t → Placed m (varnodeAt list i place)
+      by true e =
+          let p = w .present place h e in
+          record {
+            size = p .3;
+            known = p .1;
+            nowhere = λ z. absurd (let s : 1 ≤ varnodeAt list i place .space = p .0 in let y : ⊥ = omega arith in y);
+            within = λ l. rw (sym (space-length m (varnodeAt list i place .space))) (w .within place h exempt l);
+          }
+      by false e =
+          let a : varnodeAt list i place ≡ absent = w .absent place h e in
+          rw a (record { size = omega arith; known = omega arith; nowhere = λ z. refl; within = λ l. absurd (let y : ⊥ = omega arith in y) })
+
+  -- rule 23 of LOAD and STORE
+  pub movable : accesses (opcodeAt list i) ≡ true → Movable m (operationAt list i)
+  unfolding operationAt breaksPlace namesSpace
+  movable a =
+      let f = accesses-no-branch (opcodeAt list i) a in
+      let p = w .placed 1 (omega arith) in
+      let q : not (namesSpace (varnodeAt list i 1)) ≡ false = rw a at p in
+      let n = both (eqb (varnodeAt list i 1 .space) 1 && leb 2 (varnodeAt list i 1 .offset)) (leb (varnodeAt list i 1 .offset) 4) (not-false _ q) in
+      record {
+        space = (leb-true 2 (varnodeAt list i 1 .offset) (both (eqb (varnodeAt list i 1 .space) 1) (leb 2 (varnodeAt list i 1 .offset)) (n .0) .1), leb-true (varnodeAt list i 1 .offset) 4 (n .1));
+        loaded = placed 0 (omega arith) (λ z. f) .size;
+        stored = placed 3 (omega arith) (λ z. f);
+      }
+
+  -- an opcode that is none of the first nine
+  data-opcode : (opcodeAt list i ≡ 1 → ⊥) → accesses (opcodeAt list i) ≡ false → branches (opcodeAt list i) ≡ false → jumps (opcodeAt list i) ≡ false → 10 ≤ opcodeAt list i
+  unfolding accesses branches jumps among
+  data-opcode n1 a b j =
+      let n : ℕ = opcodeAt list i in
+      let a2 = neither (eqb n 2) (eqb n 3 || false) a in
+      let a3 = neither (eqb n 3) false (a2 .1) in
+      let b4 = neither (eqb n 4) (eqb n 5 || (eqb n 7 || false)) b in
+      let b5 = neither (eqb n 5) (eqb n 7 || false) (b4 .1) in
+      let b7 = neither (eqb n 7) false (b5 .1) in
+      let j6 = neither (eqb n 6) (eqb n 8 || (eqb n 9 || false)) j in
+      let j8 = neither (eqb n 8) (eqb n 9 || false) (j6 .1) in
+      let j9 = neither (eqb n 9) false (j8 .1) in
+      ten-from n (five n (w .opcode .0) n1 (eqb-false n 2 (a2 .0)) (eqb-false n 3 (a3 .0)) (eqb-false n 4 (b4 .0)))
+      (eqb-false n 5 (b5 .0)) (eqb-false n 6 (j6 .0)) (eqb-false n 7 (b7 .0)) (eqb-false n 8 (j8 .0)) (eqb-false n 9 (j9 .0))
+
+  -- rule 25 of the opcodes from 10 on
+  agree : (opcodeAt list i ≡ 1 → ⊥) → accesses (opcodeAt list i) ≡ false → branches (opcodeAt list i) ≡ false → jumps (opcodeAt list i) ≡ false
+      → sizesAgree (opcodeAt list i) (varnodeAt list i 0 .size) (varnodeAt list i 1 .size) (varnodeAt list i 2 .size) ≡ true
+  unfolding breaksSize
+  agree n1 a b j = not-false _ (rw (ne-eqb (opcodeAt list i) 1 n1, a, j, not-conditional (opcodeAt list i) b, b) at (w .sized))
+
+  pub computable : (big : Bool) → Words list → OfBytes m → operationCount list < 2 ^ 64 → accesses (opcodeAt list i) ≡ false → branches (opcodeAt list i) ≡ false
+      → (a b : ℕ) → a ≡ valueAt big m (varnodeAt list i 1) → b ≡ valueAt big m (varnodeAt list i 2) → Computable (operationAt list i) a b
+  unfolding operationAt
+  computable big words bytes small na nb a b ea eb = record {
+    operands = λ j n1 d.
+        let shape = data-shape (opcodeAt list i) (data-opcode n1 na nb j) (w .opcode .1) in
+        let out = w .present 0 (omega arith) (shape .0) in
+        let in0 = w .present 1 (omega arith) (shape .1) in
+        let f : Formed big m i (operationAt list i) = formed big addressSize list i m words bytes small w in
+        record {
+          some = out .2;
+          most = out .3;
+          some0 = in0 .2;
+          most0 = in0 .3;
+          most1 = placed 2 (omega arith) (λ z. nb) .size;
+          below0 = rw ea (f .fits0 nb);
+          below1 = rw eb (f .fits1);
+          agree = agree n1 na nb j;
+          divisor = d;
+        };
+  }
+
+-- ---- lengths and indices
+
+pub in-range : (lengths : Lengths) (list : List ℕ) → lengthsInRange lengths list ≡ true
+    → (operationCount list ≤ mostOperations) × (lengths .unique ≤ mostBytes) × (lengths .register ≤ mostBytes) × (lengths .ram ≤ mostBytes)
+unfolding lengthsInRange
+in-range lengths list e =
+    let whole : Bool = eqb (length list % wordsPerOperation) 0 in
+    let few : Bool = leb (operationCount list) mostOperations in
+    let u : Bool = leb (lengths .unique) mostBytes in
+    let r : Bool = leb (lengths .register) mostBytes in
+    let a = both (whole && few && u && r) (leb (lengths .ram) mostBytes) e in
+    let b = both (whole && few && u) r (a .0) in
+    let c = both (whole && few) u (b .0) in
+    (leb-true _ _ (both whole few (c .0) .1), leb-true _ _ (c .1), leb-true _ _ (b .1), leb-true _ _ (a .1))
+
+module _ (lengths : Lengths) (list : List ℕ) (v : Valid lengths list) (i : ℕ) (h : i < operationCount list) where
+  pub in-words : wordsPerOperation * i + wordsPerOperation ≤ length list
+  unfolding operationCount
+  in-words = omega (arith, div-mul-le-self (length list) 5)
+
+  pub index-small : i < 4096
+  index-small = omega (arith, in-range lengths list (v .inRange) .0)

@@ -1,0 +1,21 @@
+-- `refusal::plain_refusal` meets its contract. Assumes nothing.
+use mathlib.Core.Path.{refl, _∙_}
+use borrow.Author.Needs.{needs}
+use Rattle.refusal.proofs.plain_refusal.Statement.{statement}
+use Rattle.refusal.proofs.plain_refusal.Tie as tie
+use Rattle.refusal.proofs.plain_refusal.Lts as lts
+
+-- src/lib.rt:28:9
+lengths-of-requires : tie.Need-lengths-of-requires
+lengths-of-requires c κs = search needs
+
+-- src/lib.rt:26:5
+refusal-requires : tie.Need-refusal-requires
+refusal-requires c κs = search needs
+
+-- src/lib.rt:16:1
+returns : tie.Need-returns
+returns c = c .refusal .ensures ∙ rw (c .before .lengths-of .ensures) refl
+
+pub plain-refusal-spec : {M : Type 1} → statement M
+plain-refusal-spec = tie.close (tie.spec lengths-of-requires refusal-requires returns)

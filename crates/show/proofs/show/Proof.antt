@@ -1,0 +1,56 @@
+-- `show::show` meets its contract. Assumes nothing.
+use mathlib.Core.Path.{_∙_}
+use borrow.Author.Needs.{needs}
+use borrow.Author.Tests.{ne-eqb}
+use Rattle.show.specs.Show.{shown}
+use Rattle.show.proofs.show.Statement.{statement}
+use Rattle.show.proofs.show.Tie as tie
+
+shown-in-requires : tie.Need-shown-in-requires
+shown-in-requires c κs = search needs
+
+shown-in-requires-2 : tie.Need-shown-in-requires-2
+shown-in-requires-2 c κs = search needs
+
+shown-in-requires-3 : tie.Need-shown-in-requires-3
+shown-in-requires-3 c κs = search needs
+
+sub-result : tie.Need-sub-result
+sub-result c = search needs
+
+part-result-start : tie.Need-part-result-start
+part-result-start c = search needs
+
+part-result-end : tie.Need-part-result-end
+part-result-end c = search needs
+
+returns : tie.Need-returns
+unfolding shown
+returns c = c .shown-in .ensures ∙ simp (c .before .match .keys1)
+
+returns-2 : tie.Need-returns-2
+unfolding shown
+returns-2 c = c .shown-in2 .ensures ∙ simp (c .before .match .keys2)
+
+returns-3 : tie.Need-returns-3
+unfolding shown
+returns-3 c = c .shown-in3 .ensures ∙ simp (c .before .match .keys3)
+
+returns-4 : tie.Need-returns-4
+unfolding shown
+returns-4 c = simp (ne-eqb _ 2 (c .before .match .rest .0 .0 .1), ne-eqb _ 3 (c .before .match .rest .0 .1), ne-eqb _ 4 (c .before .match .rest .1))
+
+pub show-spec : {M : Type 1} → statement M
+show-spec =
+    tie.close
+    (tie.spec
+    shown-in-requires
+    shown-in-requires-2
+    shown-in-requires-3
+    sub-result
+    part-result-start
+    part-result-end
+    returns
+    returns-2
+    returns-3
+    returns-4)

@@ -1,0 +1,20 @@
+-- `taint::there` meets its contract. Assumes nothing.
+use Rattle.taint.specs.Taint.{bytesThere}
+use Rattle.machine.specs.Effect.{operationAt}
+use mathlib.Core.Path.{refl}
+use borrow.Author.Needs.{needs}
+use Rattle.taint.proofs.there.Statement.{statement}
+use Rattle.taint.proofs.there.Tie as tie
+use Rattle.taint.proofs.there.Lts as lts
+
+-- src/taint.rt:54:9
+varnode-at-requires : tie.Need-varnode-at-requires
+varnode-at-requires c κs = search needs
+
+-- src/taint.rt:50:1
+returns : tie.Need-returns
+unfolding operationAt bytesThere
+returns c = rw (c .varnode-at .ensures) refl
+
+pub there-spec : {M : Type 1} → statement M
+there-spec = tie.close (tie.spec varnode-at-requires returns)

@@ -1,0 +1,12 @@
+-- `validation::operation_count` meets its contract. Assumes nothing.
+use mathlib.Core.Path.{refl}
+use Rattle.operation.specs.Layout.{operationCount}
+use Rattle.validation.proofs.operation_count.Statement.{statement}
+use Rattle.validation.proofs.operation_count.Tie as tie
+
+returns : tie.Need-returns
+unfolding operationCount
+returns c = refl
+
+pub operation-count-spec : {M : Type 1} → statement M
+operation-count-spec = tie.close (tie.spec returns)

@@ -1,0 +1,397 @@
+//! Random programs to run, with their memory, labels and log: well-formed ones that end in every way,
+//! and damaged ones for every refusal.
+
+use reference::answers::{RunCall, VerdictCall};
+use reference::arithmetic::fits;
+use reference::bytes::{write, ByteOrder};
+use reference::list::{list_of, varnode, Entry};
+use reference::machine::State;
+use reference::memory::{Spaces, PUBLIC, SECRET};
+use reference::opcodes::{Opcode, Operation, OPERATIONS};
+use reference::run::{run, Program, BUDGET};
+use reference::varnode::{Lengths, Varnode, CONSTANT, RAM};
+use reference::verdict::{Settings, LONGEST_SPACE};
+
+use crate::inputs::{largest_value, GOOD_ORDERS, LARGE_OFFSETS};
+use crate::lists::{Frame, Generator};
+use crate::runs::Case;
+
+/// The most operations that a run executes which does not end by itself.
+const LONGEST_RUN: u32 = 150;
+
+/// The places of an entry: output and inputs.
+const OUTPUT: usize = 0;
+const INPUT0: usize = 1;
+const INPUT1: usize = 2;
+const INPUT2: usize = 3;
+
+/// Makes random cases for the labelled run; without their labels they are cases for the plain run.
+pub struct Programs {
+    lists: Generator,
+}
+
+/// A list that grows, and the values that its memory should have where it starts.
+struct Draft {
+    frame: Frame,
+    entries: Vec<Entry>,
+    values: Vec<(Varnode, u64)>,
+}
+
+impl Programs {
+    pub fn new(seed: u64) -> Programs {
+        Programs { lists: Generator::new(seed) }
+    }
+
+    /// How many words to lend for a report: once in a while too few.
+    pub fn report_len(&mut self) -> u64 {
+        self.lists.report_len()
+    }
+
+    /// A number below `limit`.
+    pub fn below(&mut self, limit: u64) -> u64 {
+        self.lists.random.below(limit)
+    }
+
+    /// A case, damaged once in three times.
+    pub fn case(&mut self) -> Case {
+        let mut case = self.case_without_limits();
+        if self.once_in(3) {
+            let wounds = self.pick(&[1, 1, 1, 2, 4]);
+            (0..wounds).for_each(|_| self.damage(&mut case));
+        }
+        self.set_budget_and_log(&mut case);
+        case
+    }
+
+    /// A case that keeps every rule.
+    pub fn well_formed_case(&mut self) -> Case {
+        let mut case = self.case_without_limits();
+        self.set_budget_and_log(&mut case);
+        case
+    }
+
+    fn once_in(&mut self, times: u64) -> bool {
+        self.lists.random.once_in(times)
+    }
+
+    fn pick<T: Copy>(&mut self, items: &[T]) -> T {
+        self.lists.random.pick(items)
+    }
+
+    /// A well-formed case without budget and log.
+    fn case_without_limits(&mut self) -> Case {
+        let settings = Settings { order: self.pick(&GOOD_ORDERS), address_size: self.lists.size() };
+        let lengths =
+            Lengths { unique: self.length(), register: self.length(), ram: self.length() };
+        let count = if self.once_in(30) { self.below(200) } else { self.below(25) };
+        let frame = Frame { address_size: settings.address_size, lengths, count };
+        let draft = self.list(frame);
+        let mut memory = self.memory(&lengths);
+        let order = if settings.order == 0 { ByteOrder::Little } else { ByteOrder::Big };
+        for (place, value) in &draft.values {
+            write(order, *value, memory.part_mut(place));
+        }
+        let labels = Some(self.labels(&lengths));
+        let start = match self.below(8) {
+            0 => count,
+            1 | 2 => self.below(count + 1),
+            _ => 0,
+        };
+        let program = Program { settings, list: list_of(&draft.entries) };
+        let call = RunCall { program, start, budget: 0 };
+        Case { call, state: State { memory, labels, log: vec![] } }
+    }
+
+    /// How many bytes a space has: mostly few, so that varnodes overlap.
+    fn length(&mut self) -> u64 {
+        match self.below(300) {
+            0 => LONGEST_SPACE,
+            1 => self.below(LONGEST_SPACE),
+            2..=30 => 0,
+            31..=80 => self.below(10),
+            _ => 8 + self.below(40),
+        }
+    }
+
+    /// What the spaces hold: each has a style of its own.
+    fn memory(&mut self, lengths: &Lengths) -> Spaces {
+        let mut memory = Spaces::of_lengths(lengths);
+        for space in memory.all_mut() {
+            let style = self.below(4);
+            for byte in space {
+                let any = self.lists.random.word();
+                *byte = match style {
+                    0 => 0,
+                    1 => (any % 4) as u8,
+                    2 => [0, 1, 0x7f, 0x80, 0xff, (any >> 8) as u8][any as usize % 6],
+                    _ => any as u8,
+                };
+            }
+        }
+        memory
+    }
+
+    /// Labels of which none, few, many or all are secret, or one space's.
+    fn labels(&mut self, lengths: &Lengths) -> Spaces {
+        let mut labels = Spaces::of_lengths(lengths);
+        let secret_once_in = match self.below(10) {
+            0 | 1 => return labels,
+            2..=5 => 30,
+            6 => 2,
+            7 => 1,
+            _ => {
+                let secret_space = self.below(3) as usize;
+                labels.all_mut()[secret_space].fill(SECRET);
+                return labels;
+            }
+        };
+        for label in labels.all_mut().into_iter().flatten() {
+            *label = if self.once_in(secret_once_in) { SECRET } else { PUBLIC };
+        }
+        labels
+    }
+
+    /// A list of single operations and loops that keeps every rule.
+    fn list(&mut self, frame: Frame) -> Draft {
+        let mut draft = Draft { frame, entries: vec![], values: vec![] };
+        while (draft.entries.len() as u64) < draft.frame.count {
+            if self.once_in(10) {
+                self.add_loop(&mut draft);
+            } else {
+                self.add_operation(&mut draft);
+            }
+        }
+        draft.entries.truncate(draft.frame.count as usize);
+        draft
+    }
+
+    /// Adds one operation; BRANCH, at least, always has room.
+    fn add_operation(&mut self, draft: &mut Draft) {
+        let index = draft.entries.len() as u64;
+        let mut entry = loop {
+            let operation = self.operation();
+            if let Some(entry) = self.lists.entry_with_room(&operation, &draft.frame, index) {
+                break entry;
+            }
+        };
+        if [Opcode::Load as u8, Opcode::Store as u8].contains(&entry.opcode) {
+            self.aim(&mut entry, draft);
+        }
+        if (leaves_the_list(&entry) || never_ends(&entry)) && !self.once_in(4) {
+            self.stay(&mut entry, index, draft.frame.count);
+        }
+        draft.entries.push(entry);
+    }
+
+    /// Any operation; one that always ends the run is drawn less often.
+    fn operation(&mut self) -> Operation {
+        let operation = self.pick(&OPERATIONS);
+        let ends_the_run =
+            matches!(operation.opcode, Opcode::BranchInd | Opcode::CallInd | Opcode::Return);
+        if ends_the_run && !self.once_in(5) {
+            return self.operation();
+        }
+        operation
+    }
+
+    /// Gives a destination up for one in the list, mostly the next operation.
+    fn stay(&mut self, entry: &mut Entry, index: u64, count: u64) {
+        let target = if self.once_in(4) { self.below(count + 1) } else { index + 1 };
+        entry.descriptors[INPUT0] = (CONSTANT * 16) as u8 + entry.descriptors[INPUT0] % 16;
+        entry.offsets[INPUT0] = target.wrapping_sub(index);
+    }
+
+    /// Gives a LOAD or a STORE a pointer that mostly is in bounds: a constant, a place that holds it
+    /// from the start on, or one that an operation before it writes. Any other pointer stays.
+    fn aim(&mut self, entry: &mut Entry, draft: &mut Draft) {
+        let size = draft.frame.address_size;
+        let address = self.address(entry, &draft.frame);
+        let constant = Varnode { space: CONSTANT, offset: address, size };
+        let pointer = match self.below(10) {
+            0 => return,
+            1..=4 => constant,
+            5..=7 => {
+                let Some(place) = self.lists.output(size, &draft.frame.lengths) else { return };
+                draft.values.push((place, address));
+                place
+            }
+            _ => {
+                let Some(place) = self.lists.output(size, &draft.frame.lengths) else { return };
+                draft.entries.push(copy(place, constant));
+                place
+            }
+        };
+        point(entry, pointer);
+    }
+
+    /// An offset for a LOAD or a STORE: mostly in bounds, else around the end of the space or of the
+    /// 64-bit numbers.
+    fn address(&mut self, entry: &Entry, frame: &Frame) -> u64 {
+        let accessed = [OUTPUT, INPUT2].map(|place| entry.descriptors[place] % 16);
+        let size = u64::from(accessed[0].max(accessed[1]));
+        let len = frame.lengths.of(entry.offsets[INPUT0]).unwrap_or(0);
+        let past_the_last = (len + 1).saturating_sub(size);
+        let address = match self.below(16) {
+            0 => past_the_last + self.below(9),
+            1 => largest_value(frame.address_size) - self.below(9),
+            2 => self.pick(&LARGE_OFFSETS),
+            3..=5 => past_the_last.saturating_sub(1),
+            _ => self.below(past_the_last.max(1)),
+        };
+        if fits(address, frame.address_size) {
+            address
+        } else {
+            self.below(past_the_last.clamp(1, 256))
+        }
+    }
+
+    /// Adds a loop that walks through memory with a pointer, and counts down to 0. Its operations
+    /// may spoil counter and pointer.
+    fn add_loop(&mut self, draft: &mut Draft) {
+        let address_size = draft.frame.address_size;
+        let lengths = draft.frame.lengths;
+        let places = self.lists.output(1, &lengths).zip(self.lists.output(address_size, &lengths));
+        let access = self.pick(&[Opcode::Load, Opcode::Store]);
+        let index = draft.entries.len() as u64;
+        let access = &OPERATIONS[access as usize - 1];
+        let entry = self.lists.entry_with_room(access, &draft.frame, index);
+        let Some(((counter, pointer), mut access)) = places.zip(entry) else {
+            return self.add_operation(draft);
+        };
+        let constant = |offset, size| Varnode { space: CONSTANT, offset, size };
+        let rounds = constant(1 + self.below(5), 1);
+        let address = constant(self.address(&access, &draft.frame), address_size);
+        draft.entries.extend([copy(counter, rounds), copy(pointer, address)]);
+        let first = draft.entries.len();
+        point(&mut access, pointer);
+        draft.entries.push(access);
+        if self.once_in(2) {
+            self.add_operation(draft);
+        }
+        let forward = 1 + self.below(8);
+        let distance =
+            if self.once_in(4) { largest_value(address_size) - forward } else { forward };
+        let distance = constant(distance, address_size);
+        draft.entries.push(binary(Opcode::IntAdd, pointer, distance));
+        draft.entries.push(binary(Opcode::IntSub, counter, constant(1, 1)));
+        let back = constant((first as u64).wrapping_sub(draft.entries.len() as u64), 8);
+        let cbranch = Entry::new(Opcode::Cbranch as u8, [None, Some(back), Some(counter), None]);
+        draft.entries.push(cbranch);
+    }
+
+    /// Chooses a budget and a log around what a plain run without limits needs.
+    fn set_budget_and_log(&mut self, case: &mut Case) {
+        let mut state = case.plain().state;
+        state.log = vec![0; LONGEST_RUN as usize];
+        let RunCall { program, start, .. } = &case.call;
+        let report = run(program, *start, LONGEST_RUN, &mut state);
+        let executed = report.executed as u32;
+        let below_executed = self.below(report.executed + 1) as u32;
+        let mut budgets = vec![0, 1, executed, executed, below_executed, LONGEST_RUN, LONGEST_RUN];
+        if report.ending != BUDGET {
+            budgets.extend([executed + 1, executed + 1, 1 << 16, 1 << 31, u32::MAX, u32::MAX]);
+        }
+        case.call.budget = self.pick(&budgets);
+        let words = report.log_words;
+        let room = match self.below(12) {
+            0 => 0,
+            1 | 2 => words.saturating_sub(1),
+            3 => words,
+            4 => self.below(words + 1),
+            _ => words + self.below(4),
+        };
+        case.state.log = (0..room).map(|_| self.lists.random.word()).collect();
+    }
+
+    /// Changes one thing, which mostly makes the run refuse.
+    fn damage(&mut self, case: &mut Case) {
+        match self.below(40) {
+            0..=2 => self.lists.damage_settings(&mut case.call.program.settings),
+            3 => self.lists.damage_word_count(&mut case.call.program.list),
+            4 => self.damage_space(&mut case.state),
+            5 | 6 => self.damage_label_lengths(&mut case.state),
+            7..=10 => self.damage_label(&mut case.state),
+            11..=14 => case.call.start = self.start_beyond(case.call.program.count()),
+            15 => self.lists.damage_order(&mut case.call.program.list),
+            _ => self.damage_operation(case),
+        }
+    }
+
+    /// Makes a space and its labels one byte too long.
+    fn damage_space(&mut self, state: &mut State) {
+        let space = self.below(3) as usize;
+        for spaces in [Some(&mut state.memory), state.labels.as_mut()].into_iter().flatten() {
+            spaces.all_mut()[space].resize(LONGEST_SPACE as usize + 1, 0);
+        }
+    }
+
+    /// Gives a space too many or too few labels, or exchanges those of two spaces.
+    fn damage_label_lengths(&mut self, state: &mut State) {
+        let Some(labels) = &mut state.labels else { return };
+        let space = self.below(3) as usize;
+        match self.below(4) {
+            0 => labels.all_mut()[space].push(PUBLIC),
+            1 => drop(labels.all_mut()[space].pop()),
+            2 => std::mem::swap(&mut labels.unique, &mut labels.register),
+            _ => std::mem::swap(&mut labels.register, &mut labels.ram),
+        }
+    }
+
+    /// Makes one label a number that is none.
+    fn damage_label(&mut self, state: &mut State) {
+        let Some(labels) = &mut state.labels else { return };
+        let [space, any, number] = [0; 3].map(|_: u64| self.lists.random.word());
+        let space = &mut labels.all_mut()[space as usize % 3];
+        let last = space.len().saturating_sub(1);
+        let places = [0, last, any as usize % (last + 1)];
+        let label = [2, 3, 0x80, 0x81, 0xff][number as usize % 5];
+        if let Some(place) = space.get_mut(places[number as usize / 8 % 3]) {
+            *place = label;
+        }
+    }
+
+    /// A start above the number of operations, also one that fits when cut to fewer bits.
+    fn start_beyond(&mut self, count: u64) -> u64 {
+        self.pick(&[count + 1, count + 1, count + 2, 1 << 16, 1 << 32, (1 << 32) + count, u64::MAX])
+    }
+
+    fn damage_operation(&mut self, case: &mut Case) {
+        let program = &mut case.call.program;
+        let mut call = VerdictCall {
+            settings: program.settings,
+            lengths: case.state.memory.lengths(),
+            list: std::mem::take(&mut program.list),
+        };
+        self.lists.damage_operation(&mut call);
+        program.list = call.list;
+    }
+}
+
+/// Whether an operation has a destination in ram.
+fn leaves_the_list(entry: &Entry) -> bool {
+    let operation = Operation::with_number(u64::from(entry.opcode));
+    let input0 = varnode(entry.descriptors[INPUT0], entry.offsets[INPUT0]);
+    operation.is_some_and(Operation::has_destination) && input0.space == RAM
+}
+
+/// Whether an operation always goes back in the list, which mostly is a loop without an end.
+fn never_ends(entry: &Entry) -> bool {
+    let always_goes = [Opcode::Branch as u8, Opcode::Call as u8].contains(&entry.opcode);
+    let input0 = varnode(entry.descriptors[INPUT0], entry.offsets[INPUT0]);
+    always_goes && input0.space == CONSTANT && input0.offset as i64 <= 0
+}
+
+/// Makes a varnode the pointer of a LOAD or a STORE.
+fn point(entry: &mut Entry, pointer: Varnode) {
+    entry.descriptors[INPUT1] = (pointer.space * 16 + pointer.size) as u8;
+    entry.offsets[INPUT1] = pointer.offset;
+}
+
+fn copy(output: Varnode, input0: Varnode) -> Entry {
+    Entry::new(Opcode::Copy as u8, [Some(output), Some(input0), None, None])
+}
+
+/// An operation on a place and a second input of the same size, back into that place.
+fn binary(opcode: Opcode, place: Varnode, input1: Varnode) -> Entry {
+    Entry::new(opcode as u8, [Some(place), Some(place), Some(input1), None])
+}

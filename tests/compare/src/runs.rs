@@ -1,0 +1,228 @@
+//! Runs and steps through the C interface, and their comparison with the second program.
+
+use std::fmt;
+
+use reference::answers::{run_answer, RunCall};
+use reference::list::WORDS_PER_OPERATION;
+use reference::machine::State;
+use reference::memory::Spaces;
+use reference::opcodes::Opcode;
+
+use crate::agreement::RESULT_WORDS;
+use crate::{labelled_run, labelled_step, run, step, LentSpaces};
+
+/// Which of the interpreter's calls to make: each has a plain and a labelled form.
+#[derive(Clone, Copy, Debug, PartialEq, Eq)]
+pub enum Job {
+    Run,
+    /// A run with budget 1, whatever the call's budget is.
+    Step,
+}
+
+/// A run and its buffers. It is labelled if the state has labels.
+#[derive(Clone, Debug)]
+pub struct Case {
+    pub call: RunCall,
+    pub state: State,
+}
+
+impl Case {
+    /// The same without labels.
+    pub fn plain(&self) -> Case {
+        let mut plain = self.clone();
+        plain.state.labels = None;
+        plain
+    }
+}
+
+impl fmt::Display for Case {
+    fn fmt(&self, formatter: &mut fmt::Formatter) -> fmt::Result {
+        formatter.write_str(&description(&self.call, &self.state))
+    }
+}
+
+/// A lent buffer between guards, which must stay as they are.
+struct Guarded<T> {
+    elements: Vec<T>,
+}
+
+impl<T: Copy + PartialEq> Guarded<T> {
+    /// Puts guards made by `guard`, which takes any number, around the elements.
+    fn around(lent: &[T], guard: fn(usize) -> T) -> Guarded<T> {
+        let side = || (0..GUARD).map(guard);
+        Guarded { elements: side().chain(lent.iter().copied()).chain(side()).collect() }
+    }
+
+    fn lent(&mut self) -> &mut [T] {
+        let end = self.elements.len() - GUARD;
+        &mut self.elements[GUARD..end]
+    }
+
+    /// Puts the lent elements back where they came from. Gives back whether the guards are as they
+    /// were.
+    fn give_back(self, guard: fn(usize) -> T, to: &mut [T]) -> bool {
+        let (before, rest) = self.elements.split_at(GUARD);
+        let (lent, after) = rest.split_at(to.len());
+        to.copy_from_slice(lent);
+        [before, after].iter().all(|side| side.iter().copied().eq((0..GUARD).map(guard)))
+    }
+}
+
+/// Guard elements on each side of a lent buffer.
+const GUARD: usize = 16;
+
+fn guard_byte(index: usize) -> u8 {
+    0xa5 ^ (17 * index as u8)
+}
+
+fn guard_word(index: usize) -> u64 {
+    RESULT_WORDS[index % RESULT_WORDS.len()]
+}
+
+/// Three spaces, or their labels, each between guards.
+struct GuardedSpaces {
+    spaces: [Guarded<u8>; 3],
+}
+
+impl GuardedSpaces {
+    fn around(spaces: &Spaces) -> GuardedSpaces {
+        GuardedSpaces { spaces: spaces.all().map(|space| Guarded::around(space, guard_byte)) }
+    }
+
+    fn lent(&mut self) -> LentSpaces<'_> {
+        let [unique, register, ram] = &mut self.spaces;
+        LentSpaces { unique: unique.lent(), register: register.lent(), ram: ram.lent() }
+    }
+
+    fn give_back(self, to: &mut Spaces) -> bool {
+        let mut holds = true;
+        for (space, to) in self.spaces.into_iter().zip(to.all_mut()) {
+            holds &= space.give_back(guard_byte, to);
+        }
+        holds
+    }
+}
+
+/// The interpreter's answer to a run or a step. Every buffer is lent between guards; a changed guard
+/// is a failure.
+pub fn interpreter_answer(job: Job, call: &RunCall, state: &mut State, report: &mut [u64]) -> u64 {
+    let mut memory = GuardedSpaces::around(&state.memory);
+    let mut labels = state.labels.as_ref().map(GuardedSpaces::around);
+    let mut log = Guarded::around(&state.log, guard_word);
+    let mut guarded_report = Guarded::around(report, guard_word);
+    let answer = {
+        let (memory, log, report) = (memory.lent(), log.lent(), guarded_report.lent());
+        match (job, labels.as_mut()) {
+            (Job::Run, None) => run(call, memory, log, report),
+            (Job::Step, None) => step(call, memory, log, report),
+            (Job::Run, Some(labels)) => labelled_run(call, memory, labels.lent(), log, report),
+            (Job::Step, Some(labels)) => labelled_step(call, memory, labels.lent(), log, report),
+        }
+    };
+    let guards = [
+        ("memory", memory.give_back(&mut state.memory)),
+        ("labels", labels.zip(state.labels.as_mut()).is_none_or(|(from, to)| from.give_back(to))),
+        ("log", log.give_back(guard_word, &mut state.log)),
+        ("report", guarded_report.give_back(guard_word, report)),
+    ];
+    for (name, holds) in guards {
+        assert!(
+            holds,
+            "the {job:?} wrote beyond the ends of the lent {name}; what it left:\n{}",
+            description(call, state)
+        );
+    }
+    answer
+}
+
+/// The interpreter's report of a run or a step that is lent all five report words.
+pub fn interpreter_report(job: Job, case: &mut Case) -> [u64; 5] {
+    let mut report = [0; 5];
+    let answer = interpreter_answer(job, &case.call, &mut case.state, &mut report);
+    assert_eq!(answer, 0, "a call with a report of five words was refused");
+    report
+}
+
+/// Compares a run or a step that is lent `report_len` words, with every buffer after it; what it left
+/// stays in `state`. Gives back the report, unless the call was refused, and names each operation
+/// executed to the observer.
+pub fn check_run(
+    job: Job,
+    call: &RunCall,
+    state: &mut State,
+    report_len: u64,
+    observer: impl FnMut(Opcode),
+) -> Option<[u64; 5]> {
+    let report_len = report_len as usize;
+    let before = state.clone();
+    let budget = if job == Job::Step { 1 } else { call.budget };
+    let expected_call = RunCall { budget, ..call.clone() };
+    let mut expected_state = before.clone();
+    let expected_report = run_answer(&expected_call, &mut expected_state, report_len, observer);
+    let mut expected_words = RESULT_WORDS;
+    if let Ok(numbers) = expected_report {
+        expected_words[..numbers.len()].copy_from_slice(&numbers);
+    }
+    let expected = (expected_report.err().unwrap_or(0), expected_words);
+
+    let mut words = RESULT_WORDS;
+    let answer = interpreter_answer(job, call, state, &mut words[..report_len]);
+    if (answer, words) != expected || *state != expected_state {
+        panic!(
+            "the {job:?} disagrees with {report_len} report words on\n\
+             {}\
+             interpreter: answer {answer}, report {words:x?}\n{}\
+             second program: answer {}, report {:x?}\n{}",
+            description(call, &before),
+            differences(state, &expected_state),
+            expected.0,
+            expected.1,
+            differences(&expected_state, state),
+        );
+    }
+    expected_report.ok()
+}
+
+/// A call in words: the first operations of its list, and all bytes and labels of short spaces.
+fn description(call: &RunCall, state: &State) -> String {
+    let RunCall { program, start, budget } = call;
+    let mut lines = format!("{:x?}, start {start}, budget {budget}\n", program.settings);
+    lines += &format!("{:?}, {} log words\n", state.memory.lengths(), state.log.len());
+    for (index, words) in program.list.chunks(WORDS_PER_OPERATION).enumerate().take(40) {
+        lines += &format!("operation {index}: {words:x?}\n");
+    }
+    for spaces in [Some(&state.memory), state.labels.as_ref()].into_iter().flatten() {
+        for space in spaces.all().into_iter().filter(|space| space.len() <= 100) {
+            lines += &format!("{space:x?}\n");
+        }
+    }
+    lines
+}
+
+/// The places where a state differs from another of the same lengths, with what it holds there.
+fn differences(state: &State, other: &State) -> String {
+    let mut lines = String::new();
+    let both = [
+        ("memory", Some((&state.memory, &other.memory))),
+        ("labels", state.labels.as_ref().zip(other.labels.as_ref())),
+    ];
+    for (name, spaces) in both {
+        let Some((spaces, others)) = spaces else { continue };
+        for (number, (space, other)) in (2..).zip(spaces.all().into_iter().zip(others.all())) {
+            for (offset, (byte, _)) in different(space, other) {
+                lines += &format!("  {name} of space {number} at {offset}: {byte:#x}\n");
+            }
+        }
+    }
+    for (place, (word, _)) in different(&state.log, &other.log) {
+        lines += &format!("  log word {place}: {word:#x}\n");
+    }
+    lines
+}
+
+fn different<'a, T: PartialEq>(
+    one: &'a [T],
+    other: &'a [T],
+) -> impl Iterator<Item = (usize, (&'a T, &'a T))> {
+    one.iter().zip(other).enumerate().filter(|(_, (one, other))| one != other)
+}

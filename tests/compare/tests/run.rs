@@ -1,0 +1,358 @@
+//! `undrelvoa_run`, `undrelvoa_labelled_run` and their steps, and the second program: random programs,
+//! secret bytes that must not show, runs that are resumed, and paper 01's results.
+
+use std::iter::zip;
+
+use compare::agreement::Tally;
+use compare::programs::Programs;
+use compare::random::Random;
+use compare::runs::{check_run, interpreter_report, Case, Job};
+use reference::answers::RunCall;
+use reference::machine::State;
+use reference::memory::{Spaces, SECRET};
+use reference::opcodes::OPERATIONS;
+use reference::run::{Program, BUDGET};
+use reference::verdict::Settings;
+
+/// One program in twenty is lent too short a report.
+const RANDOM_RUNS: u64 = 500_000;
+const STEPPED_RUNS: u64 = 50_000;
+const MEMORY_PAIRS: u64 = 100_000;
+const RESUMED_RUNS: u64 = 50_000;
+
+/// How a plain run can end.
+const PLAIN_ENDINGS: [u64; 15] = [0, 1, 2, 10, 11, 21, 22, 23, 24, 25, 26, 27, 32, 33, 34];
+/// How a labelled run can end.
+const LABELLED_ENDINGS: [u64; 17] =
+    [0, 1, 2, 10, 11, 12, 21, 22, 23, 24, 25, 26, 27, 31, 32, 33, 34];
+const LEAK: u64 = 31;
+
+/// How often each ending should come, and each opcode be executed.
+const ENDING_QUOTA: u64 = 500;
+const OPCODE_QUOTA: u64 = 1_000;
+
+/// Plain and labelled runs are of the same programs.
+const RUN_SEED: u64 = 0x5eed_0041;
+
+/// How often each opcode was executed, by name.
+fn by_name(executed: &Tally) -> String {
+    let counts = OPERATIONS
+        .map(|operation| format!("{}: {}", operation.name, executed.of(operation.number())));
+    counts.join(", ")
+}
+
+/// Compares random runs in the form that `form` gives them.
+fn random_runs(name: &str, form: fn(&Case) -> Case, endings: &[u64]) {
+    let mut programs = Programs::new(RUN_SEED);
+    let mut tally = Tally::default();
+    let mut executed = Tally::default();
+    let mut refused = 0;
+    for _ in 0..RANDOM_RUNS {
+        let Case { call, mut state } = form(&programs.case());
+        let count = |opcode| executed.count(opcode as u64);
+        let report_len = programs.report_len();
+        match check_run(Job::Run, &call, &mut state, report_len, count) {
+            Some([ending, ..]) => tally.count(ending),
+            None => refused += 1,
+        }
+    }
+    println!(
+        "{name}, random programs: seed {RUN_SEED:#x}, {tally}, {refused} refused for a short report\n\
+         {name}, operations executed: {}",
+        by_name(&executed)
+    );
+    tally.assert_numbers(endings);
+    tally.assert_quota(endings, ENDING_QUOTA);
+    executed.assert_quota(&OPERATIONS.map(|operation| operation.number()), OPCODE_QUOTA);
+}
+
+#[test]
+fn random_plain_runs() {
+    random_runs("run", Case::plain, &PLAIN_ENDINGS);
+}
+
+#[test]
+fn random_labelled_runs() {
+    random_runs("labelled run", Case::clone, &LABELLED_ENDINGS);
+}
+
+/// Steps through a program, from each ending by BUDGET on to the next.
+fn check_steps(mut case: Case, programs: &mut Programs, tally: &mut Tally) {
+    const MOST_STEPS: u64 = 10;
+    for _ in 0..MOST_STEPS {
+        let report_len = programs.report_len();
+        let report = check_run(Job::Step, &case.call, &mut case.state, report_len, |_| ());
+        // A step that was refused for a short report can be taken again.
+        let Some([ending, index, ..]) = report else { continue };
+        tally.count(ending);
+        if ending != BUDGET {
+            return;
+        }
+        case.call.start = index;
+    }
+}
+
+#[test]
+fn random_steps() {
+    const SEED: u64 = 0x5eed_0042;
+    let mut programs = Programs::new(SEED);
+    let mut plain = Tally::default();
+    let mut labelled = Tally::default();
+    for _ in 0..STEPPED_RUNS {
+        let case = programs.case();
+        check_steps(case.plain(), &mut programs, &mut plain);
+        check_steps(case, &mut programs, &mut labelled);
+    }
+    println!("step, {STEPPED_RUNS} random programs: seed {SEED:#x}, {plain}");
+    println!("labelled step, {STEPPED_RUNS} random programs: seed {SEED:#x}, {labelled}");
+    plain.assert_numbers(&PLAIN_ENDINGS);
+    labelled.assert_numbers(&LABELLED_ENDINGS);
+}
+
+/// Whether each byte of the spaces has one label, public or secret.
+fn labels_hold(memory: &Spaces, labels: &Spaces) -> bool {
+    let are_labels = |space: &Vec<u8>| space.iter().all(|&label| label <= SECRET);
+    memory.lengths() == labels.lengths() && labels.all().into_iter().all(are_labels)
+}
+
+/// The labels of a labelled case.
+fn labels(case: &Case) -> &Spaces {
+    case.state.labels.as_ref().expect("a labelled case")
+}
+
+/// The same case with other secret bytes, and with other words in the log.
+fn with_other_secrets(case: &Case, random: &mut Random) -> Case {
+    let mut other = case.clone();
+    for (space, labels) in zip(other.state.memory.all_mut(), labels(case).all()) {
+        for (byte, _) in zip(space, labels).filter(|(_, &label)| label == SECRET) {
+            *byte = random.word() as u8;
+        }
+    }
+    other.state.log.iter_mut().for_each(|word| *word = !*word);
+    other
+}
+
+/// Whether two memories agree in each byte that is public.
+fn public_bytes_agree(one: &Spaces, other: &Spaces, labels: &Spaces) -> bool {
+    zip(labels.all(), zip(one.all(), other.all())).all(|(labels, (bytes, others))| {
+        zip(labels, zip(bytes, others))
+            .all(|(&label, (one, other))| label == SECRET || one == other)
+    })
+}
+
+/// The log words that a run wrote.
+fn written_log(state: &State, report: &[u64; 5]) -> Vec<u64> {
+    state.log[..report[3] as usize].to_vec()
+}
+
+#[test]
+fn secret_bytes_do_not_show() {
+    const SEED: u64 = 0x5eed_0043;
+    let mut programs = Programs::new(SEED);
+    let mut random = Random::new(!SEED);
+    let mut tally = Tally::default();
+    let mut different_after = 0;
+    let mut pairs = 0;
+    while pairs < MEMORY_PAIRS {
+        let mut one = programs.case();
+        let mut other = with_other_secrets(&one, &mut random);
+        if one.state.memory == other.state.memory {
+            continue;
+        }
+        let before = [one.clone(), other.clone()];
+        let [on_one, on_other] = &before;
+        let report = interpreter_report(Job::Run, &mut one);
+        let other_report = interpreter_report(Job::Run, &mut other);
+        assert_eq!(report, other_report, "the reports on\n{on_one}and on\n{on_other}");
+        let log = written_log(&one.state, &report);
+        let other_log = written_log(&other.state, &report);
+        assert_eq!(log, other_log, "the log words of\n{on_one}and of\n{on_other}");
+        assert!(labels(&one) == labels(&other), "other labels after\n{on_one}and\n{on_other}");
+        assert!(
+            public_bytes_agree(&one.state.memory, &other.state.memory, labels(&one)),
+            "other public bytes after\n{on_one}and\n{on_other}"
+        );
+        for (before, after) in zip(&before, [&one, &other]) {
+            assert_plain_run_is_the_same(before, after, &report);
+        }
+        tally.count(report[0]);
+        different_after += u64::from(one.state.memory != other.state.memory);
+        pairs += 1;
+    }
+    println!(
+        "labelled run, pairs of memories with other secret bytes: seed {SEED:#x}, {tally}, \
+         {different_after} with other secret bytes after the run"
+    );
+    tally.assert_numbers(&LABELLED_ENDINGS);
+}
+
+/// Fails unless the plain run does what the labelled run did, where that did not end with LEAK and
+/// did not refuse its labels.
+fn assert_plain_run_is_the_same(before: &Case, after: &Case, report: &[u64; 5]) {
+    if report[0] == LEAK || !labels_hold(&before.state.memory, labels(before)) {
+        return;
+    }
+    let mut plain = before.plain();
+    let plain_report = interpreter_report(Job::Run, &mut plain);
+    assert_eq!(plain_report, *report, "the reports, plain and labelled, on\n{before}");
+    assert_eq!(plain.state.log, after.state.log, "the logs, plain and labelled, after\n{before}");
+    let agrees = plain.state.memory == after.state.memory;
+    assert!(agrees, "other memory, plain and labelled, after\n{before}");
+}
+
+/// A run in parts.
+struct Parts {
+    /// The last part's report, with operations and log words summed.
+    report: [u64; 5],
+    state: State,
+    /// The budgets of the parts, added.
+    budget: u32,
+    /// How many parts ended by BUDGET.
+    stops: u64,
+}
+
+/// Runs a case with one budget after the other, each from where the one before it stopped, with the
+/// unused part of the log.
+fn run_in_parts(case: &Case, budgets: &[u32]) -> Parts {
+    let mut part = case.clone();
+    let mut sum = Parts { report: [0; 5], state: case.state.clone(), budget: 0, stops: 0 };
+    let mut log = Vec::new();
+    for &budget in budgets {
+        part.call.budget = budget;
+        let [ending, index, executed, log_words, value] = interpreter_report(Job::Run, &mut part);
+        log.extend(part.state.log.drain(..log_words as usize));
+        let [_, _, executed_before, log_words_before, _] = sum.report;
+        sum.report =
+            [ending, index, executed_before + executed, log_words_before + log_words, value];
+        sum.budget += budget;
+        if ending != BUDGET {
+            break;
+        }
+        sum.stops += 1;
+        part.call.start = index;
+    }
+    log.append(&mut part.state.log);
+    sum.state = State { log, ..part.state };
+    sum
+}
+
+/// Compares a run in parts with one run. Gives back whether it stopped and was resumed.
+fn check_resumed(case: &Case, budgets: &[u32]) -> bool {
+    let parts = run_in_parts(case, budgets);
+    let mut whole = case.clone();
+    whole.call.budget = parts.budget;
+    let report = interpreter_report(Job::Run, &mut whole);
+    assert_eq!(parts.report, report, "the reports with budgets {budgets:?} on\n{case}");
+    assert!(parts.state == whole.state, "another state with budgets {budgets:?} after\n{case}");
+    parts.stops > 0
+}
+
+#[test]
+fn resumed_runs_are_one_run() {
+    const SEED: u64 = 0x5eed_0044;
+    let mut programs = Programs::new(SEED);
+    let mut plain = 0;
+    let mut labelled = 0;
+    while plain < RESUMED_RUNS || labelled < RESUMED_RUNS {
+        let case = programs.well_formed_case();
+        let parts = 2 + programs.below(4);
+        let budgets: Vec<u32> = (0..parts).map(|_| programs.below(12) as u32).collect();
+        plain += u64::from(check_resumed(&case.plain(), &budgets));
+        labelled += u64::from(check_resumed(&case, &budgets));
+    }
+    println!("run, stopped by BUDGET and resumed: seed {SEED:#x}, {plain} agreed");
+    println!("labelled run, stopped by BUDGET and resumed: seed {SEED:#x}, {labelled} agreed");
+}
+
+/// A plain case with 8-byte addresses, little byte order and a log of 4 words.
+fn plain_case(operations: &[[u64; 5]], start: u64, budget: u32, memory: Spaces) -> Case {
+    let settings = Settings { order: 0, address_size: 8 };
+    let program = Program { settings, list: operations.concat() };
+    let state = State { memory, labels: None, log: vec![7; 4] };
+    Case { call: RunCall { program, start, budget }, state }
+}
+
+/// Compares a case, plain and with public labels, and gives back its report and its state.
+fn check_both(case: Case) -> ([u64; 5], State) {
+    let mut labelled = case.state.clone();
+    labelled.labels = Some(Spaces::of_lengths(&labelled.memory.lengths()));
+    let report = check_run(Job::Run, &case.call, &mut labelled, 5, |_| ());
+    let mut plain = case.state;
+    assert_eq!(check_run(Job::Run, &case.call, &mut plain, 5, |_| ()), report);
+    assert_eq!((&plain.memory, &plain.log), (&labelled.memory, &labelled.log));
+    (report.expect("a report of five words"), plain)
+}
+
+/// COPY of 2 bytes within unique, from 0 to 1.
+const OVERLAPPING_COPY: [u64; 5] = [0x22_22_01, 1, 0, 0, 0];
+
+fn unique_only(bytes: &[u8]) -> Spaces {
+    Spaces { unique: bytes.to_vec(), register: vec![], ram: vec![] }
+}
+
+#[test]
+fn load_in_ram_at_12_passes_at_13_and_at_2_to_64_minus_1_is_bounds() {
+    // LOAD of 4 bytes from ram into unique, with the pointer in register.
+    let load = [0x38_11_24_02, 0, 4, 0, 0];
+    let result = |pointer: u64| {
+        let memory = Spaces {
+            unique: vec![0xee; 4],
+            register: pointer.to_le_bytes().to_vec(),
+            ram: (0..16).collect(),
+        };
+        let (report, state) = check_both(plain_case(&[load], 0, 9, memory));
+        (report, state.memory.unique, state.log)
+    };
+    assert_eq!(result(12), ([0, 1, 1, 1, 0], vec![12, 13, 14, 15], vec![12, 7, 7, 7]));
+    assert_eq!(result(13), ([32, 0, 0, 0, 0], vec![0xee; 4], vec![7; 4]));
+    assert_eq!(result(u64::MAX), ([32, 0, 0, 0, 0], vec![0xee; 4], vec![7; 4]));
+    println!("run, LOAD in ram of 16 bytes: 3 agreed");
+}
+
+#[test]
+fn empty_list_with_budget_0_is_end() {
+    let (report, _) = check_both(plain_case(&[], 0, 0, unique_only(&[])));
+    assert_eq!(report, [0, 0, 0, 0, 0]);
+    println!("run, empty list with budget 0: 1 agreed");
+}
+
+#[test]
+fn start_n_is_end_and_n_plus_1_is_start() {
+    for count in [0, 1, 7, 4_096] {
+        let operations = vec![OVERLAPPING_COPY; count as usize];
+        let report = |start| check_both(plain_case(&operations, start, 9, unique_only(&[1; 3]))).0;
+        assert_eq!(report(count), [0, count, 0, 0, 0]);
+        assert_eq!(report(count + 1), [27, 0, 0, 0, 0]);
+        assert_eq!(report(u64::MAX), [27, 0, 0, 0, 0]);
+    }
+    println!("run, start at the end and beyond: 12 agreed");
+}
+
+#[test]
+fn overlapping_copy_reads_before_it_writes() {
+    let (report, state) =
+        check_both(plain_case(&[OVERLAPPING_COPY], 0, 9, unique_only(&[1, 2, 3, 4])));
+    assert_eq!(report, [0, 1, 1, 0, 0]);
+    assert_eq!(state.memory.unique, [1, 1, 2, 4]);
+    println!("run, overlapping COPY: 1 agreed");
+}
+
+#[test]
+fn branch_at_5_by_3_goes_to_8() {
+    let mut operations = [OVERLAPPING_COPY; 10];
+    operations[5] = [0x11_00_04, 0, 3, 0, 0];
+    let (report, _) = check_both(plain_case(&operations, 5, 1, unique_only(&[0; 3])));
+    assert_eq!(report, [2, 8, 1, 0, 0]);
+    println!("run, BRANCH at 5 by 3: 1 agreed");
+}
+
+#[test]
+fn lists_of_4096_operations_run_and_of_4097_are_length() {
+    let report = |count| {
+        let operations = vec![OVERLAPPING_COPY; count];
+        check_both(plain_case(&operations, 0, u32::MAX, unique_only(&[0; 3]))).0
+    };
+    assert_eq!(report(4_096), [0, 4_096, 4_096, 0, 0]);
+    assert_eq!(report(4_097), [11, 0, 0, 0, 0]);
+    println!("run, 4096 and 4097 operations: 2 agreed");
+}

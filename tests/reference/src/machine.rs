@@ -1,0 +1,251 @@
+//! One operation of a well-formed list: its checks in paper 01's order, and then what it does. The
+//! plain machine is the one without labels.
+
+use crate::arithmetic::value;
+use crate::bytes::{self, ByteOrder};
+use crate::fault;
+use crate::list::{Entry, WORDS_PER_OPERATION};
+use crate::memory::{is_secret, value_of, Spaces, PUBLIC, SECRET};
+use crate::opcodes::{Opcode, Operation};
+use crate::varnode::{Varnode, CONSTANT};
+use crate::verdict::{decoded, Varnodes};
+
+/// What a run is lent to read and write. A plain run has no labels.
+#[derive(Clone, Debug, PartialEq, Eq)]
+pub struct State {
+    pub memory: Spaces,
+    pub labels: Option<Spaces>,
+    pub log: Vec<u64>,
+}
+
+/// What comes after an operation.
+#[derive(Clone, Copy, Debug, PartialEq, Eq)]
+pub enum Next {
+    /// The run goes on at this index, which may be the end of the list.
+    Index(usize),
+    /// The run ends with this destination.
+    Exit(u64),
+}
+
+/// A list while it runs.
+pub struct Machine<'a> {
+    order: ByteOrder,
+    operations: &'a [[u64; WORDS_PER_OPERATION]],
+    state: &'a mut State,
+    log_words: usize,
+}
+
+impl<'a> Machine<'a> {
+    /// A machine for a well-formed list, with an empty log.
+    pub fn new(
+        order: ByteOrder,
+        operations: &'a [[u64; WORDS_PER_OPERATION]],
+        state: &'a mut State,
+    ) -> Machine<'a> {
+        Machine { order, operations, state, log_words: 0 }
+    }
+
+    /// How many operations the list has.
+    pub fn count(&self) -> usize {
+        self.operations.len()
+    }
+
+    /// How many log words were written.
+    pub fn log_words(&self) -> usize {
+        self.log_words
+    }
+
+    /// The opcode of the operation at an index.
+    pub fn opcode(&self, index: usize) -> Opcode {
+        self.decode(index).operation.opcode
+    }
+
+    /// Executes the operation at an index, or names what stops it. A stopped one writes nothing.
+    pub fn execute(&mut self, index: usize) -> Result<Next, u64> {
+        let instruction = self.decode(index);
+        if self.leaks(&instruction) {
+            return Err(fault::LEAK);
+        }
+        if !self.is_in_bounds(&instruction) {
+            return Err(fault::BOUNDS);
+        }
+        if self.divides_by_zero(&instruction) {
+            return Err(fault::ZERO);
+        }
+        let log_word = self.log_word(&instruction, index);
+        if log_word.is_some() && self.log_words == self.state.log.len() {
+            return Err(fault::LOG);
+        }
+        // All that is read is read before anything is written.
+        let write = self.write_of(&instruction);
+        let next = self.next(&instruction, index);
+        self.write_log(log_word);
+        self.write_target(write);
+        Ok(next)
+    }
+
+    fn decode(&self, index: usize) -> Instruction {
+        let entry = Entry::from_words(self.operations[index]);
+        let (operation, varnodes) = decoded(&entry).expect("the list is well-formed");
+        Instruction { operation, varnodes }
+    }
+
+    fn value(&self, varnode: &Varnode) -> u64 {
+        value_of(self.order, &self.state.memory, varnode)
+    }
+
+    /// Whether a secret byte stands where only public ones may decide.
+    fn leaks(&self, instruction: &Instruction) -> bool {
+        let Some(labels) = &self.state.labels else {
+            return false;
+        };
+        instruction.must_be_public().is_some_and(|varnode| is_secret(labels, &varnode))
+    }
+
+    /// The bytes that a LOAD reads or a STORE writes, which may be beyond the end of their space.
+    fn pointed_to(&self, instruction: &Instruction) -> Option<Varnode> {
+        let size = match instruction.operation.opcode {
+            Opcode::Load => instruction.output().size,
+            Opcode::Store => instruction.input2().size,
+            _ => return None,
+        };
+        let offset = self.value(&instruction.input1());
+        Some(Varnode { space: instruction.varnodes.input0.offset, offset, size })
+    }
+
+    /// The sum of pointer and size does not wrap.
+    fn is_in_bounds(&self, instruction: &Instruction) -> bool {
+        let lengths = self.state.memory.lengths();
+        self.pointed_to(instruction).is_none_or(|place| lengths.contain(&place))
+    }
+
+    fn divides_by_zero(&self, instruction: &Instruction) -> bool {
+        instruction.operation.divides() && self.value(&instruction.input1()) == 0
+    }
+
+    /// Whether a CBRANCH is taken: any byte but 0 is true.
+    fn is_taken(&self, instruction: &Instruction) -> bool {
+        self.value(&instruction.input1()) != 0
+    }
+
+    /// The log word that is due: index * 2^32 plus the byte offset, or plus 1 if taken.
+    fn log_word(&self, instruction: &Instruction, index: usize) -> Option<u64> {
+        let detail = match instruction.operation.opcode {
+            Opcode::Load | Opcode::Store => self.pointed_to(instruction)?.offset,
+            Opcode::Cbranch => u64::from(self.is_taken(instruction)),
+            _ => return None,
+        };
+        Some(index as u64 * (1 << 32) + detail)
+    }
+
+    /// What the operation writes, if it writes anything.
+    fn write_of(&self, instruction: &Instruction) -> Option<Write> {
+        let varnodes = &instruction.varnodes;
+        let input0 = varnodes.input0;
+        match instruction.operation.opcode {
+            Opcode::Copy => Some(self.write(instruction.output(), self.value(&input0), &[input0])),
+            Opcode::Load => {
+                let loaded = self.pointed_to(instruction)?;
+                let sources = [instruction.input1(), loaded];
+                Some(self.write(instruction.output(), self.value(&loaded), &sources))
+            }
+            Opcode::Store => {
+                let target = self.pointed_to(instruction)?;
+                let input2 = instruction.input2();
+                Some(self.write(target, self.value(&input2), &[input2]))
+            }
+            opcode if instruction.operation.is_integer() => {
+                let a = self.value(&input0);
+                let b = varnodes.input1.map_or(0, |input1| self.value(&input1));
+                let result = value(opcode, varnodes.sizes(), a, b);
+                let sources = [input0, varnodes.input1.unwrap_or(input0)];
+                Some(self.write(instruction.output(), result, &sources))
+            }
+            _ => None,
+        }
+    }
+
+    /// A write whose bytes all become secret if any byte of its sources is, else public.
+    fn write(&self, target: Varnode, value: u64, sources: &[Varnode]) -> Write {
+        let is_secret = |labels| sources.iter().any(|source| is_secret(labels, source));
+        let label = if self.state.labels.as_ref().is_some_and(is_secret) { SECRET } else { PUBLIC };
+        Write { target, value, label }
+    }
+
+    fn next(&self, instruction: &Instruction, index: usize) -> Next {
+        match instruction.operation.opcode {
+            Opcode::Branch | Opcode::Call => instruction.destination(index),
+            Opcode::Cbranch if self.is_taken(instruction) => instruction.destination(index),
+            Opcode::BranchInd | Opcode::CallInd | Opcode::Return => {
+                Next::Exit(self.value(&instruction.varnodes.input0))
+            }
+            _ => Next::Index(index + 1),
+        }
+    }
+
+    fn write_log(&mut self, log_word: Option<u64>) {
+        if let Some(word) = log_word {
+            self.state.log[self.log_words] = word;
+            self.log_words += 1;
+        }
+    }
+
+    fn write_target(&mut self, write: Option<Write>) {
+        let Some(Write { target, value, label }) = write else {
+            return;
+        };
+        bytes::write(self.order, value, self.state.memory.part_mut(&target));
+        if let Some(labels) = &mut self.state.labels {
+            labels.part_mut(&target).fill(label);
+        }
+    }
+}
+
+/// What an operation writes: a value, and one label for all its bytes.
+struct Write {
+    target: Varnode,
+    value: u64,
+    label: u8,
+}
+
+/// A well-formed operation and its varnodes.
+struct Instruction {
+    operation: &'static Operation,
+    varnodes: Varnodes,
+}
+
+impl Instruction {
+    fn output(&self) -> Varnode {
+        self.varnodes.output.expect("rule 22 gives this operation an output")
+    }
+
+    fn input1(&self) -> Varnode {
+        self.varnodes.input1.expect("rule 22 gives this operation an input1")
+    }
+
+    fn input2(&self) -> Varnode {
+        self.varnodes.input2.expect("rule 22 gives this operation an input2")
+    }
+
+    /// The varnode that LEAK looks at: a pointer, a condition, an indirect destination or a divisor.
+    fn must_be_public(&self) -> Option<Varnode> {
+        match self.operation.opcode {
+            Opcode::Load | Opcode::Store => Some(self.input1()),
+            Opcode::Cbranch => Some(self.input1()),
+            Opcode::BranchInd | Opcode::CallInd | Opcode::Return => Some(self.varnodes.input0),
+            _ if self.operation.divides() => Some(self.input1()),
+            _ => None,
+        }
+    }
+
+    /// Where a BRANCH, a CALL or a taken CBRANCH goes. A constant is a signed distance, of the whole
+    /// offset word; an address in ram is not looked up in ram.
+    fn destination(&self, index: usize) -> Next {
+        let Varnode { space, offset, .. } = self.varnodes.input0;
+        if space != CONSTANT {
+            return Next::Exit(offset);
+        }
+        let target = index as i128 + i128::from(offset as i64);
+        Next::Index(usize::try_from(target).expect("rule 26 keeps destinations in the list"))
+    }
+}

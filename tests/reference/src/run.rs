@@ -1,0 +1,450 @@
+//! The run and the step: refusals before anything runs, then one operation after the other.
+
+use crate::bytes::ByteOrder;
+use crate::fault;
+use crate::list::WORDS_PER_OPERATION;
+use crate::machine::{Machine, Next, State};
+use crate::memory::{Spaces, PUBLIC, SECRET};
+use crate::opcodes::Opcode;
+use crate::verdict::{lengths_hold, settings_hold, verdict, Report, Settings, END};
+
+/// The ending of a run by a destination outside the list.
+pub const EXIT: u64 = 1;
+/// The ending of a run that has executed as many operations as it may.
+pub const BUDGET: u64 = 2;
+
+/// A list to run, and the settings that it is for.
+#[derive(Clone, Debug, PartialEq, Eq)]
+pub struct Program {
+    pub settings: Settings,
+    pub list: Vec<u64>,
+}
+
+impl Program {
+    /// How many whole operations the list has.
+    pub fn count(&self) -> u64 {
+        (self.list.len() / WORDS_PER_OPERATION) as u64
+    }
+}
+
+/// Runs a list from an index on, labelled if the state has labels.
+pub fn run(program: &Program, start: u64, budget: u32, state: &mut State) -> Report {
+    observed_run(program, start, budget, state, |_| ())
+}
+
+/// The step: a run with budget 1.
+pub fn step(program: &Program, start: u64, state: &mut State) -> Report {
+    run(program, start, 1, state)
+}
+
+/// A run that names each operation executed to its observer.
+pub fn observed_run(
+    program: &Program,
+    start: u64,
+    budget: u32,
+    state: &mut State,
+    mut observer: impl FnMut(Opcode),
+) -> Report {
+    if let Some(report) = refusal(program, start, state) {
+        return report;
+    }
+    let order = ByteOrder::with_number(program.settings.order).expect("the settings hold");
+    let (operations, _) = program.list.as_chunks::<WORDS_PER_OPERATION>();
+    let mut machine = Machine::new(order, operations, state);
+    let mut index = start as usize;
+    let mut executed = 0;
+    let (ending, value) = loop {
+        if index == machine.count() {
+            break (END, 0);
+        }
+        if executed == budget {
+            break (BUDGET, 0);
+        }
+        let next = match machine.execute(index) {
+            Ok(next) => next,
+            Err(ending) => break (ending, 0),
+        };
+        executed += 1;
+        observer(machine.opcode(index));
+        match next {
+            Next::Index(target) => index = target,
+            Next::Exit(destination) => break (EXIT, destination),
+        }
+    };
+    Report {
+        ending,
+        index: index as u64,
+        executed: u64::from(executed),
+        log_words: machine.log_words() as u64,
+        value,
+    }
+}
+
+/// The refusals in their order: 10, 11, 12, 21 to 26, 27.
+fn refusal(program: &Program, start: u64, state: &State) -> Option<Report> {
+    let Program { settings, list } = program;
+    let lengths = state.memory.lengths();
+    if !settings_hold(settings) {
+        return Some(Report::before_a_run(fault::SETTING, 0));
+    }
+    if !lengths_hold(&lengths, list.len()) || !label_lengths_hold(state) {
+        return Some(Report::before_a_run(fault::LENGTH, 0));
+    }
+    if !labels_hold(state) {
+        return Some(Report::before_a_run(fault::LABEL, 0));
+    }
+    let report = verdict(settings, &lengths, list);
+    if report.ending != END {
+        return Some(report);
+    }
+    if start > program.count() {
+        return Some(Report::before_a_run(fault::START, 0));
+    }
+    None
+}
+
+/// Rule 11 LENGTH for labels: each space has as many as it has bytes.
+fn label_lengths_hold(state: &State) -> bool {
+    state.labels.as_ref().is_none_or(|labels| labels.lengths() == state.memory.lengths())
+}
+
+/// Rule 12 LABEL.
+fn labels_hold(state: &State) -> bool {
+    let are_labels = |space: &Vec<u8>| space.iter().all(|&label| matches!(label, PUBLIC | SECRET));
+    let all_are_labels = |labels: &Spaces| labels.all().into_iter().all(are_labels);
+    state.labels.as_ref().is_none_or(all_are_labels)
+}
+
+#[cfg(test)]
+mod tests {
+    use super::*;
+    use crate::list::tests::CASE;
+    use crate::verdict::{LONGEST_SPACE, MOST_OPERATIONS};
+
+    const LITTLE: u64 = 0;
+    const BIG: u64 = 1;
+
+    /// COPY of 2 bytes within unique, from 0 to 1.
+    const OVERLAPPING_COPY: [u64; 5] = [0x22_22_01, 1, 0, 0, 0];
+    /// LOAD of 4 bytes from ram into unique, with the pointer in all 8 bytes of register.
+    const LOAD: [u64; 5] = [0x38_11_24_02, 0, 4, 0, 0];
+    /// STORE of the first byte of unique to ram, with the pointer in register.
+    const STORE: [u64; 5] = [0x21_38_11_00_03, 0, 4, 0, 0];
+    /// INT_DIV of the first byte of unique by the second, into the third.
+    const DIVISION: [u64; 5] = [0x21_21_21_23, 2, 0, 1, 0];
+    /// INT_ADD of the first byte of unique and the second, into the third.
+    const ADDITION: [u64; 5] = [0x21_21_21_15, 2, 0, 1, 0];
+    /// BRANCH to itself.
+    const FOREVER: [u64; 5] = [0x11_00_04, 0, 0, 0, 0];
+
+    /// A program with 8-byte addresses.
+    fn program(order: u64, operations: &[[u64; 5]]) -> Program {
+        Program { settings: Settings { order, address_size: 8 }, list: operations.concat() }
+    }
+
+    /// A state without labels, and a log of 4 words.
+    fn state(unique: &[u8], register: &[u8], ram: &[u8]) -> State {
+        let memory =
+            Spaces { unique: unique.to_vec(), register: register.to_vec(), ram: ram.to_vec() };
+        State { memory, labels: None, log: vec![7; 4] }
+    }
+
+    /// The same state with public labels only.
+    fn labelled(mut state: State) -> State {
+        state.labels = Some(Spaces::of_lengths(&state.memory.lengths()));
+        state
+    }
+
+    fn labels(state: &mut State) -> &mut Spaces {
+        state.labels.as_mut().expect("a labelled state")
+    }
+
+    #[test]
+    fn the_case_of_the_paper() {
+        let mut state = labelled(state(&[0; 16], &[0; 16], &[0; 16]));
+        state.memory.register[0] = 0x0d;
+        state.memory.ram[5] = 0x5a;
+        labels(&mut state).ram[5] = SECRET;
+        state.log = vec![0; 1_024];
+        let settings = Settings { order: LITTLE, address_size: 4 };
+        let report = run(&Program { settings, list: CASE.concat() }, 0, 100, &mut state);
+        assert_eq!(report.numbers(), [0, 3, 3, 1, 0]);
+        assert_eq!(state.log[..2], [0x0000000100000005, 0]);
+        let with = |places: &[(usize, u8)]| {
+            let mut bytes = vec![0; 16];
+            places.iter().for_each(|&(place, byte)| bytes[place] = byte);
+            bytes
+        };
+        assert_eq!(state.memory.unique, with(&[(0, 0x05), (4, 0x5a)]));
+        assert_eq!(state.memory.register, with(&[(0, 0x0d), (8, 0x5a)]));
+        assert_eq!(state.memory.ram, with(&[(5, 0x5a)]));
+        assert_eq!(labels(&mut state).unique, with(&[(4, SECRET)]));
+        assert_eq!(labels(&mut state).register, with(&[(8, SECRET)]));
+        assert_eq!(labels(&mut state).ram, with(&[(5, SECRET)]));
+    }
+
+    #[test]
+    fn marked_load_in_ram_of_16_bytes() {
+        let ram: Vec<u8> = (0..16).collect();
+        for (pointer, ending) in [(12, END), (13, fault::BOUNDS), (u64::MAX, fault::BOUNDS)] {
+            let before = state(&[0xee; 4], &u64::to_le_bytes(pointer), &ram);
+            let mut after = before.clone();
+            let report = run(&program(LITTLE, &[LOAD]), 0, 9, &mut after);
+            if ending == END {
+                assert_eq!(report.numbers(), [END, 1, 1, 1, 0]);
+                assert_eq!(after.memory.unique, [12, 13, 14, 15]);
+                assert_eq!(after.log, [12, 7, 7, 7]);
+            } else {
+                assert_eq!(report.numbers(), [ending, 0, 0, 0, 0]);
+                assert_eq!(after, before);
+            }
+        }
+    }
+
+    #[test]
+    fn marked_empty_list_with_budget_0() {
+        let mut state = state(&[], &[], &[]);
+        assert_eq!(run(&program(LITTLE, &[]), 0, 0, &mut state).numbers(), [END, 0, 0, 0, 0]);
+        let report = run(&program(LITTLE, &[FOREVER]), 0, 0, &mut state);
+        assert_eq!(report.numbers(), [BUDGET, 0, 0, 0, 0]);
+    }
+
+    #[test]
+    fn marked_start_at_n_and_beyond() {
+        let mut state = state(&[0; 3], &[], &[]);
+        let program = program(LITTLE, &[OVERLAPPING_COPY, OVERLAPPING_COPY]);
+        assert_eq!(run(&program, 2, 9, &mut state).numbers(), [END, 2, 0, 0, 0]);
+        assert_eq!(run(&program, 3, 9, &mut state).numbers(), [fault::START, 0, 0, 0, 0]);
+        assert_eq!(run(&program, u64::MAX, 0, &mut state).numbers(), [fault::START, 0, 0, 0, 0]);
+    }
+
+    #[test]
+    fn marked_overlapping_copy() {
+        for order in [LITTLE, BIG] {
+            let mut state = state(&[1, 2, 3, 4], &[], &[]);
+            let report = run(&program(order, &[OVERLAPPING_COPY]), 0, 9, &mut state);
+            assert_eq!(report.numbers(), [END, 1, 1, 0, 0]);
+            assert_eq!(state.memory.unique, [1, 1, 2, 4]);
+        }
+    }
+
+    #[test]
+    fn marked_branch_at_5_by_3() {
+        let mut operations = [OVERLAPPING_COPY; 10];
+        operations[5] = [0x11_00_04, 0, 3, 0, 0];
+        let report = step(&program(LITTLE, &operations), 5, &mut state(&[0; 3], &[], &[]));
+        assert_eq!(report.numbers(), [BUDGET, 8, 1, 0, 0]);
+    }
+
+    #[test]
+    fn refusals_in_their_order() {
+        let mut program = program(2, &[[0x11_00_04, 0, 9, 0, 0]]);
+        let mut state = labelled(state(&[0; 4], &[0; 8], &[]));
+        labels(&mut state).unique = vec![2; 5];
+        let refused = |program: &Program, state: &State| {
+            let mut after = state.clone();
+            let report = run(program, 9, 9, &mut after);
+            assert_eq!(&after, state);
+            assert_eq!(report.numbers()[1..], [0; 4]);
+            report.ending
+        };
+        assert_eq!(refused(&program, &state), fault::SETTING);
+        program.settings.order = BIG;
+        assert_eq!(refused(&program, &state), fault::LENGTH);
+        labels(&mut state).unique = vec![0, 1, 2, 3];
+        assert_eq!(refused(&program, &state), fault::LABEL);
+        labels(&mut state).unique = vec![0, 1, 1, 0];
+        assert_eq!(refused(&program, &state), fault::TARGET);
+        program.list = LOAD.to_vec();
+        assert_eq!(refused(&program, &state), fault::START);
+    }
+
+    #[test]
+    fn lengths_that_are_refused() {
+        let ending = |count: usize, space: u64| {
+            let mut state = state(&[0; 4], &[0; 8], &vec![0; space as usize]);
+            run(&program(LITTLE, &vec![FOREVER; count]), 0, 0, &mut state).ending
+        };
+        assert_eq!(ending(MOST_OPERATIONS, LONGEST_SPACE), BUDGET);
+        assert_eq!(ending(MOST_OPERATIONS + 1, LONGEST_SPACE), fault::LENGTH);
+        assert_eq!(ending(MOST_OPERATIONS, LONGEST_SPACE + 1), fault::LENGTH);
+    }
+
+    #[test]
+    fn reading_13_label_lengths_go_space_by_space() {
+        let mut state = labelled(state(&[0; 4], &[0; 8], &[]));
+        labels(&mut state).unique = vec![0; 8];
+        labels(&mut state).register = vec![0; 4];
+        assert_eq!(run(&program(LITTLE, &[]), 0, 9, &mut state).ending, fault::LENGTH);
+    }
+
+    /// The ending of one operation on a labelled state, which it leaves as it is.
+    fn stopped(operation: [u64; 5], before: &State) -> u64 {
+        let mut after = before.clone();
+        let report = run(&program(LITTLE, &[operation]), 0, 9, &mut after);
+        assert_eq!(&after, before);
+        assert_eq!(report.numbers()[1..], [0; 4]);
+        report.ending
+    }
+
+    #[test]
+    fn checks_in_their_order() {
+        let mut before = labelled(state(&[0; 4], &[0xff; 8], &[0; 4]));
+        before.log.clear();
+        labels(&mut before).register[7] = SECRET;
+        assert_eq!(stopped(LOAD, &before), fault::LEAK);
+        labels(&mut before).register[7] = PUBLIC;
+        assert_eq!(stopped(LOAD, &before), fault::BOUNDS);
+        before.memory.register.fill(0);
+        assert_eq!(stopped(LOAD, &before), fault::LOG);
+        labels(&mut before).unique[1] = SECRET;
+        assert_eq!(stopped(DIVISION, &before), fault::LEAK);
+        labels(&mut before).unique[1] = PUBLIC;
+        assert_eq!(stopped(DIVISION, &before), fault::ZERO);
+    }
+
+    #[test]
+    fn leak_looks_at_pointers_conditions_destinations_and_divisors() {
+        let secret = |operation: [u64; 5]| {
+            let mut before = labelled(state(&[1; 4], &[0; 8], &[0; 4]));
+            labels(&mut before).unique[1] = SECRET;
+            labels(&mut before).register[3] = SECRET;
+            stopped(operation, &before)
+        };
+        for opcode in [0x23, 0x24, 0x25, 0x26] {
+            assert_eq!(secret([0x21_21_21_00 + opcode, 2, 0, 1, 0]), fault::LEAK);
+        }
+        for opcode in [6, 8, 9] {
+            assert_eq!(secret([0x38_00_00 + opcode, 0, 0, 0, 0]), fault::LEAK);
+        }
+        assert_eq!(secret([0x21_11_00_05, 0, 1, 1, 0]), fault::LEAK);
+        assert_eq!([secret(LOAD), secret(STORE)], [fault::LEAK; 2]);
+    }
+
+    /// The labels of unique after one operation on labels of unique.
+    fn labels_after(operation: [u64; 5], unique: [u8; 4]) -> Vec<u8> {
+        let mut state = labelled(state(&[1; 4], &[0; 8], &[0; 4]));
+        labels(&mut state).unique = unique.to_vec();
+        labels(&mut state).ram = vec![0, 0, 0, 1];
+        assert_eq!(run(&program(LITTLE, &[operation]), 0, 9, &mut state).ending, END);
+        labels(&mut state).unique.clone()
+    }
+
+    #[test]
+    fn an_output_is_secret_if_anything_read_is() {
+        assert_eq!(labels_after(ADDITION, [0, 0, 1, 1]), [0, 0, 0, 1]);
+        assert_eq!(labels_after(ADDITION, [1, 0, 0, 0]), [1, 0, 1, 0]);
+        assert_eq!(labels_after(ADDITION, [0, 1, 0, 0]), [0, 1, 1, 0]);
+        assert_eq!(labels_after(OVERLAPPING_COPY, [1, 0, 0, 0]), [1, 1, 1, 0]);
+        assert_eq!(labels_after(OVERLAPPING_COPY, [0, 0, 1, 0]), [0, 0, 0, 0]);
+        // Of the four bytes loaded, the last is secret.
+        assert_eq!(labels_after(LOAD, [0, 0, 0, 0]), [1, 1, 1, 1]);
+        let first_two_bytes = [0x38_11_22_02, 0, 4, 0, 0];
+        assert_eq!(labels_after(first_two_bytes, [1, 1, 1, 1]), [0, 0, 1, 1]);
+    }
+
+    #[test]
+    fn reading_9_dropped_bytes_count_as_read() {
+        // SUBPIECE of 2 bytes into 1: byte 0, then byte 1.
+        for dropped in [0, 1] {
+            let operation = [0x11_22_21_0b, 3, 0, dropped, 0];
+            assert_eq!(labels_after(operation, [0, 1, 0, 0]), [0, 1, 0, 1]);
+        }
+    }
+
+    #[test]
+    fn a_store_gives_its_target_the_label_of_its_data() {
+        for (data, target) in [(SECRET, PUBLIC), (PUBLIC, SECRET)] {
+            let mut state = labelled(state(&[5; 4], &[0; 8], &[0; 4]));
+            state.memory.register[0] = 2;
+            labels(&mut state).unique[0] = data;
+            labels(&mut state).ram = vec![target; 4];
+            let report = run(&program(LITTLE, &[STORE]), 0, 9, &mut state);
+            assert_eq!(report.numbers(), [END, 1, 1, 1, 0]);
+            assert_eq!(state.memory.ram, [0, 0, 5, 0]);
+            assert_eq!(labels(&mut state).ram, [target, target, data, target]);
+            assert_eq!(state.log, [2, 7, 7, 7]);
+        }
+    }
+
+    #[test]
+    fn reading_8_a_call_to_a_constant_is_a_branch() {
+        let mut state = state(&[0; 3], &[], &[]);
+        let program = program(BIG, &[[0x11_00_07, 0, 2, 0, 0], OVERLAPPING_COPY]);
+        assert_eq!(run(&program, 0, 9, &mut state).numbers(), [END, 2, 1, 0, 0]);
+    }
+
+    #[test]
+    fn reading_9_a_destination_in_ram_is_not_read() {
+        for opcode in [0x41_00_04, 0x41_00_07, 0x11_41_00_05] {
+            let mut state = labelled(state(&[], &[], &[0; 4]));
+            labels(&mut state).ram.fill(SECRET);
+            let condition = u64::from(opcode == 0x11_41_00_05);
+            let operation = [opcode, 0, 1, condition, 0];
+            let report = run(&program(LITTLE, &[operation]), 0, 9, &mut state);
+            assert_eq!(report.numbers(), [EXIT, 0, 1, condition, 1]);
+        }
+    }
+
+    #[test]
+    fn reading_12_a_cbranch_to_ram_writes_its_word() {
+        let cbranch = |condition| [0x11_48_00_05, 0, u64::MAX, condition, 0];
+        let mut state = state(&[], &[], &[]);
+        let list = program(LITTLE, &[cbranch(0), cbranch(0x80)]);
+        assert_eq!(run(&list, 0, 9, &mut state).numbers(), [EXIT, 1, 2, 2, u64::MAX]);
+        assert_eq!(state.log, [0, (1 << 32) + 1, 7, 7]);
+        state.log = vec![7];
+        assert_eq!(run(&list, 0, 9, &mut state).numbers(), [fault::LOG, 1, 1, 1, 0]);
+        assert_eq!(state.log, [0]);
+    }
+
+    #[test]
+    fn indirect_branches_exit_with_a_value() {
+        for opcode in [6, 8, 9] {
+            let mut state = state(&[], &[0, 0, 0, 0, 0, 0, 1, 2], &[]);
+            let report = run(&program(BIG, &[[0x38_00_00 + opcode, 0, 0, 0, 0]]), 0, 9, &mut state);
+            assert_eq!(report.numbers(), [EXIT, 0, 1, 0, 0x102]);
+        }
+    }
+
+    #[test]
+    fn reading_14_the_step() {
+        let mut state = state(&[0; 3], &[], &[]);
+        let program = program(LITTLE, &[OVERLAPPING_COPY, [0x41_00_04, 0, 6, 0, 0], FOREVER]);
+        assert_eq!(step(&program, 0, &mut state).numbers(), [BUDGET, 1, 1, 0, 0]);
+        assert_eq!(step(&program, 1, &mut state).numbers(), [EXIT, 1, 1, 0, 6]);
+        assert_eq!(step(&program, 2, &mut state).numbers(), [BUDGET, 2, 1, 0, 0]);
+        assert_eq!(step(&program, 3, &mut state).numbers(), [END, 3, 0, 0, 0]);
+    }
+
+    #[test]
+    fn a_run_resumed_is_one_run() {
+        let operations = [OVERLAPPING_COPY, STORE, ADDITION, STORE, OVERLAPPING_COPY];
+        let program = program(LITTLE, &operations);
+        let before = labelled(state(&[1, 2, 3, 4], &[0; 8], &[0; 4]));
+        let mut whole = before.clone();
+        let one_run = run(&program, 0, 5, &mut whole);
+        for budget in 0..5 {
+            let mut state = before.clone();
+            let first = run(&program, 0, budget, &mut state);
+            assert_eq!(first.ending, BUDGET);
+            let written: Vec<u64> = state.log.drain(..first.log_words as usize).collect();
+            let second = run(&program, first.index, 5 - budget, &mut state);
+            state.log.splice(0..0, written);
+            assert_eq!(state, whole);
+            assert_eq!([second.ending, second.index], [one_run.ending, one_run.index]);
+            assert_eq!(first.executed + second.executed, one_run.executed);
+            assert_eq!(first.log_words + second.log_words, one_run.log_words);
+        }
+    }
+
+    #[test]
+    fn the_observer_hears_of_each_operation_executed() {
+        let program = program(LITTLE, &[ADDITION, OVERLAPPING_COPY, DIVISION]);
+        let mut opcodes = Vec::new();
+        let mut state = state(&[1, 0, 0, 0], &[], &[]);
+        let report = observed_run(&program, 0, 9, &mut state, |opcode| opcodes.push(opcode));
+        assert_eq!(report.numbers(), [END, 3, 3, 0, 0]);
+        assert_eq!(opcodes, [Opcode::IntAdd, Opcode::Copy, Opcode::IntDiv]);
+    }
+}
