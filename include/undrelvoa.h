@@ -14,8 +14,8 @@
  *   25 SIZE     sizes that the operation does not allow together
  *   33 ZERO     a divisor of 0
  *
- * undrelvoa_validate, the runs and the steps put their ending into a report, and answer 0 when they
- * have done so.
+ * undrelvoa_validate, the runs and the steps put their ending, an undrelvoa_ending, into a report, and
+ * answer 0 when they have done so, or 11 for a report that is too short.
  *
  * A buffer is a pointer and the number of its elements. The pointer of an empty buffer is not read,
  * but must not be NULL. Buffers of one call must not overlap.
@@ -74,6 +74,30 @@ enum undrelvoa_opcode {
     UNDRELVOA_BOOL_XOR = 40,
     UNDRELVOA_BOOL_AND = 41,
     UNDRELVOA_BOOL_OR = 42
+};
+
+/* How a run ended, the first number of a report; the second is the index that stands here. A value other
+ * than 0 comes with EXIT alone. Refusals come before anything runs, in the order 10, 11, 12, 21 to 26, 27;
+ * nothing is executed or written then. */
+enum undrelvoa_ending {
+    UNDRELVOA_END = 0,      /* the end of the list: the number of operations */
+    UNDRELVOA_EXIT = 1,     /* the exiting operation, which is counted; the value is its destination */
+    UNDRELVOA_BUDGET = 2,   /* the budget is spent: the next operation */
+    UNDRELVOA_SETTING = 10, /* byte order or address size out of range: 0 */
+    UNDRELVOA_LENGTH = 11,  /* words not a multiple of 5, over 4,096 operations, a space over 65,536
+                             * bytes, or other numbers of labels than of bytes: 0 */
+    UNDRELVOA_LABEL = 12,   /* a label that is neither 0 nor 1: 0 */
+    UNDRELVOA_HEAD = 21,    /* 21 to 26: the first malformed operation, by the lowest rule it breaks */
+    UNDRELVOA_SHAPE = 22,
+    UNDRELVOA_PLACE = 23,
+    UNDRELVOA_RANGE = 24,
+    UNDRELVOA_SIZE = 25,
+    UNDRELVOA_TARGET = 26,
+    UNDRELVOA_START = 27,   /* a start above the number of operations: 0 */
+    UNDRELVOA_LEAK = 31,    /* 31 to 34: the operation that was not executed, in this order. LEAK: a */
+    UNDRELVOA_BOUNDS = 32,  /* byte that must be public is secret. BOUNDS: a pointer past its space. */
+    UNDRELVOA_ZERO = 33,    /* ZERO: a divisor of 0. LOG: a word is due and the log is full */
+    UNDRELVOA_LOG = 34
 };
 
 /* The value of an integer operation.
@@ -152,16 +176,16 @@ uint64_t undrelvoa_validate(uint64_t order, uint64_t address_size, uint64_t uniq
  *   budget       the most operations to execute
  *   unique, register_space, ram   the three spaces, read and written
  *   unique_len, register_len, ram_len   their bytes, at most 65,536 each
- *   log          its first words become the log words written; further words stay as they are
+ *   log          its first words become the log words written; further words stay as they are. Each
+ *                LOAD, STORE and CBRANCH executed writes one word: its index * 2^32 plus the byte
+ *                offset, or plus 1 if taken and 0 if not
  *   log_len      words of log: the log's room
  *   report       report[0] to report[4] become ending, index, operations executed, log words written
  *                and value; further words stay as they are
  *   report_len   words of report, at least 5
  *
- * The ending of a refusal is 10, 11 or 27 (start) with index 0, or 21 to 26 with the index of the
- * first malformed operation; nothing ran, and the spaces and the log are as lent. Else the ending is 0
- * at the end of the list, 1 at an exit, with its destination as value, 2 with the budget spent, or 32
- * BOUNDS, 33 ZERO or 34 LOG, at an operation that was not executed; the index is where the run ended.
+ * The endings are those of enum undrelvoa_ending but for 12 and 31. After a refusal the spaces and the
+ * log are as lent; after another ending they are as the executed operations left them.
  * Answers 0 when the report is written, or 11.
  */
 uint64_t undrelvoa_run(uint64_t order, uint64_t address_size, const uint64_t *list, size_t list_len,
@@ -182,11 +206,10 @@ uint64_t undrelvoa_step(uint64_t order, uint64_t address_size, const uint64_t *l
  *   unique_labels_len, register_labels_len, ram_labels_len   their bytes, as many as the space has
  *   the others   as for undrelvoa_run
  *
- * The endings are those of undrelvoa_run and two more. A refusal may be 11 for the labels too, where a
- * space has another number of labels than bytes, or 12 LABEL, a label that is neither 0 nor 1, with
- * index 0; the labels too are then as lent. A run may end with 31 LEAK, at an operation that was not
- * executed because a byte of its pointer, condition, divisor or destination is secret; 31 goes before
- * 32 to 34. All bytes that an operation writes become secret if a byte that it reads is, else public.
+ * The endings are those of enum undrelvoa_ending. After a refusal the labels too are as lent. LEAK is a
+ * secret byte in the pointer of LOAD or STORE, the condition of CBRANCH, input0 of BRANCHIND, CALLIND or
+ * RETURN, or a divisor. All bytes that an operation writes become secret if a byte that it reads is, else
+ * public.
  * Answers 0 when the report is written, or 11.
  */
 uint64_t undrelvoa_labelled_run(uint64_t order, uint64_t address_size, const uint64_t *list,

@@ -17,7 +17,7 @@ use Rattle.arithmetic.specs.Operands.{among}
 use Rattle.machine.specs.Memory.{Memory, OfBytes, lengthsOf, written}
 use Rattle.machine.specs.Effect.{Operation, operationAt}
 use Rattle.machine.specs.Run.{Position, logWord, advanced, ended, stepped, continued, run}
-use Rattle.machine.specs.Calls.{Outcome, unlabelled, logAfter, outcomeOf}
+use Rattle.machine.specs.Calls.{Outcome, unlabelled, logAfter, outcomeOf, plainOutcome}
 use Rattle.machine.specs.Conditions.{Words, hasSecret, leaks, becomesSecret}
 use Rattle.machine.proofs.Plain.{nothing-secret, nothing-written}
 use Rattle.machine.proofs.Kept.{written-lengths}
@@ -27,7 +27,7 @@ use Rattle.operation.specs.declared.layout.Lengths.{Lengths}
 use Rattle.plan.specs.declared.Plan.{Plan}
 use Rattle.plan.specs.Valid.{Valid}
 use Rattle.plan.specs.Plans.{planned}
-use Rattle.execution.specs.Loops.{position, plainly}
+use Rattle.execution.specs.Loops.{position}
 use Rattle.plan.proofs.Steps.{wordsOf, carried, stepped-planned}
 use Rattle.plan.proofs.Bounds.{next-within, target-writable, low-small}
 use Rattle.plan.proofs.Places.{index-small}
@@ -141,15 +141,15 @@ module _ (big : Bool) (list : List ℕ) (budget start from : ℕ) (log₀ : List
   abbrev Finally : Outcome → Type 0
   Finally o = o ≡ outcomeOf log₀ (run big list budget (position start from 0 log₀) unlabelled m₀)
 
-  ended-here : (ending value : ℕ) → plainly (record { ending = ending; index = i; executed = executed; logged = k; value = value }) m log
+  ended-here : (ending value : ℕ) → plainOutcome (record { ending = ending; index = i; executed = executed; logged = k; value = value }) m log
       ≡ outcomeOf log₀ (ended ending value (position i k executed log) unlabelled m)
   ended-here ending value = ended-at log₀ log k (g .logs) ending value i executed unlabelled m
 
   finally : (ending value : ℕ) → run big list (budget - executed) (position i k executed log) unlabelled m ≡ ended ending value (position i k executed log) unlabelled m
-      → Finally (plainly (record { ending = ending; index = i; executed = executed; logged = k; value = value }) m log)
+      → Finally (plainOutcome (record { ending = ending; index = i; executed = executed; logged = k; value = value }) m log)
   finally ending value e = ended-here ending value ∙ ap (outcomeOf log₀) (sym e ∙ g .same)
 
-  pub at-end : i ≡ operationCount list → Finally (plainly (record { ending = 0; index = i; executed = executed; logged = k; value = 0 }) m log)
+  pub at-end : i ≡ operationCount list → Finally (plainOutcome (record { ending = 0; index = i; executed = executed; logged = k; value = 0 }) m log)
   unfolding position
   at-end e = finally 0 0 (end (budget - executed))
     where
@@ -159,7 +159,7 @@ module _ (big : Bool) (list : List ℕ) (budget start from : ℕ) (log₀ : List
       end : (fuel : ℕ) → run big list fuel (position i k executed log) unlabelled m ≡ ended 0 0 (position i k executed log) unlabelled m
       end fuel = run-end big list fuel (position i k executed log) unlabelled m over
 
-  pub at-budget : (i ≡ operationCount list → ⊥) → executed ≡ budget → Finally (plainly (record { ending = 2; index = i; executed = executed; logged = k; value = 0 }) m log)
+  pub at-budget : (i ≡ operationCount list → ⊥) → executed ≡ budget → Finally (plainOutcome (record { ending = 2; index = i; executed = executed; logged = k; value = 0 }) m log)
   unfolding position
   at-budget more e = finally 2 0 (run-budget big list (budget - executed) (position i k executed log) unlabelled m (omega arith) (lt-ltb i (operationCount list) (let h : i ≤ operationCount list = g .index in omega arith)))
 
@@ -190,7 +190,7 @@ module _ (big : Bool) (list : List ℕ) (budget start from : ℕ) (log₀ : List
       unfolding run
       run-step = rw (fuel, step-is) refl
 
-      pub at-stop : 1 < p .stop → Finally (plainly (record { ending = p .stop; index = i; executed = executed; logged = k; value = 0 }) m log)
+      pub at-stop : 1 < p .stop → Finally (plainOutcome (record { ending = p .stop; index = i; executed = executed; logged = k; value = 0 }) m log)
       unfolding carried continued
       at-stop h = finally (p .stop) 0 (run-step ∙ rw (lt-ltb 1 (p .stop) h) refl)
 
@@ -205,7 +205,7 @@ module _ (big : Bool) (list : List ℕ) (budget start from : ℕ) (log₀ : List
         unfolding position
         due-room = rw (room-is (length log) k (g .logs .place)) (sym ef)
 
-        pub at-full : full ≡ true → Finally (plainly (record { ending = 34; index = i; executed = executed; logged = k; value = 0 }) m log)
+        pub at-full : full ≡ true → Finally (plainOutcome (record { ending = 34; index = i; executed = executed; logged = k; value = 0 }) m log)
         unfolding carried continued
         at-full f = finally 34 0 (run-step ∙ rw (le-ltb 1 (p .stop) go, due-room, f) refl)
 
@@ -224,13 +224,13 @@ module _ (big : Bool) (list : List ℕ) (budget start from : ℕ) (log₀ : List
           pub logs-kept : Log log₀ log′ k′
           logs-kept = rw (ek, el, ew) (pushed log₀ log k (logWord i (p .low)) (g .logs) (p .due) has-room)
 
-          pub at-exit : p .stop ≡ 1 → Finally (plainly (record { ending = 1; index = i; executed = executed + 1; logged = k′; value = p .value }) m log′)
+          pub at-exit : p .stop ≡ 1 → Finally (plainOutcome (record { ending = 1; index = i; executed = executed + 1; logged = k′; value = p .value }) m log′)
           unfolding carried continued position
           at-exit e =
               exited
               ∙ ap (outcomeOf log₀) (sym (run-step ∙ rw (le-ltb 1 (p .stop) go, due-room, f, eq-eqb (p .stop) 1 e, moved-on i) refl) ∙ g .same)
             where
-              exited : plainly (record { ending = 1; index = i; executed = executed + 1; logged = k′; value = p .value }) m log′
+              exited : plainOutcome (record { ending = 1; index = i; executed = executed + 1; logged = k′; value = p .value }) m log′
                   ≡ outcomeOf log₀ (ended 1 (p .value) (position i k′ (executed + 1) log′) unlabelled m)
               exited = ended-at log₀ log′ k′ logs-kept 1 (p .value) i (executed + 1) unlabelled m
 

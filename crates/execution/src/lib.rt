@@ -6,9 +6,9 @@ ghost use lib.ListN.{length, set};
 ghost use Rattle.operation.specs.Layout.{operationCount};
 ghost use Rattle.machine.specs.Memory.{spaces, lengthsOf};
 ghost use Rattle.machine.specs.Run.{logWord, run};
-ghost use Rattle.machine.specs.Calls.{unlabelled, outcomeOf};
+ghost use Rattle.machine.specs.Calls.{unlabelled, outcomeOf, plainOutcome};
 ghost use Rattle.plan.specs.Valid.{Valid};
-ghost use Rattle.execution.specs.Loops.{position, plainly};
+ghost use Rattle.execution.specs.Loops.{position};
 use integer::boolean::both;
 use memory::varnode::write;
 use operation::report::Report;
@@ -28,7 +28,7 @@ pub fn run_from(
     budget: u64,
 ) -> Report
     requires { ⌜ Valid (lengthsOf (spaces (now unique) (now register) (now ram))) (now list) × (start ≤ operationCount (now list)) × (from ≤ length (now log)) ⌝ }
-    ensures { λ r. ⌜ plainly r (spaces (now (unique .exit)) (now (register .exit)) (now (ram .exit))) (now (log .exit))
+    ensures { λ r. ⌜ plainOutcome r (spaces (now (unique .exit)) (now (register .exit)) (now (ram .exit))) (now (log .exit))
         ≡ outcomeOf (now (log .entry)) (run big (now (list .entry)) budget (position start from 0 (now (log .entry))) unlabelled
         (spaces (now (unique .entry)) (now (register .entry)) (now (ram .entry)))) ⌝ }
 {

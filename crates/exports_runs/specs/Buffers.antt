@@ -1,4 +1,4 @@
--- The buffers of the runs of the C interface.
+-- Reports and buffers of the C interface.
 use Prim.Native.Nat.{ℕ}
 use mathlib.Core.Bool.{cond}
 use mathlib.Core.List.{List, [], _∷_}

@@ -3,17 +3,11 @@
 ghost use mathlib.Core.Path.{_≡_};
 ghost use Rattle.validation.specs.Verdict.{verdict};
 ghost use Rattle.machine.specs.Memory.{spaces};
-ghost use Rattle.machine.specs.Calls.{plainRun, plainStep, labelledRun, labelledStep};
-ghost use Rattle.execution.specs.Loops.{plainly};
-ghost use Rattle.labelled.specs.Left.{labelled};
+ghost use Rattle.runs.specs.Promises.{RunPromise, LabelledRunPromise};
 ghost use Rattle.show.specs.Show.{view, shown};
-use execution::run_from;
-use labelled::run_labelled;
 use operation::layout::Lengths;
 use operation::layout::Settings;
 use operation::report::Report;
-use refusal::labelled_refusal;
-use refusal::plain_refusal;
 
 // The verdict on a list of operations, for spaces of these lengths: paper 01's judge.
 pub fn validate(settings: Settings, lengths: Lengths, list: &[u64]) -> Report
@@ -33,18 +27,11 @@ pub fn run(
     ram: &mut [u8],
     log: &mut [u64],
 ) -> Report
-    ensures { λ r. ⌜ plainly r (spaces (now (unique .exit)) (now (register .exit)) (now (ram .exit))) (now (log .exit))
-        ≡ plainRun settings (now (list .entry)) start budget (now (log .entry))
-        (spaces (now (unique .entry)) (now (register .entry)) (now (ram .entry))) ⌝ }
+    ensures { λ r. ⌜ RunPromise settings (now (list .entry)) start budget
+        (spaces (now (unique .entry)) (now (register .entry)) (now (ram .entry))) (now (log .entry))
+        (spaces (now (unique .exit)) (now (register .exit)) (now (ram .exit))) (now (log .exit)) r ⌝ }
 {
-    let refused = plain_refusal(settings, list, start, unique, register, ram);
-    if refused.ending != 0 {
-        return refused;
-    }
-    let big = settings.order == 1;
-    let at = start as usize;
-    let most = budget as u64;
-    run_from(big, list, unique, register, ram, log, at, 0, most)
+    runs::run(settings, list, start, budget, unique, register, ram, log)
 }
 
 // The same with budget 1.
@@ -57,11 +44,11 @@ pub fn step(
     ram: &mut [u8],
     log: &mut [u64],
 ) -> Report
-    ensures { λ r. ⌜ plainly r (spaces (now (unique .exit)) (now (register .exit)) (now (ram .exit))) (now (log .exit))
-        ≡ plainStep settings (now (list .entry)) start (now (log .entry))
-        (spaces (now (unique .entry)) (now (register .entry)) (now (ram .entry))) ⌝ }
+    ensures { λ r. ⌜ RunPromise settings (now (list .entry)) start 1
+        (spaces (now (unique .entry)) (now (register .entry)) (now (ram .entry))) (now (log .entry))
+        (spaces (now (unique .exit)) (now (register .exit)) (now (ram .exit))) (now (log .exit)) r ⌝ }
 {
-    run(settings, list, start, 1, unique, register, ram, log)
+    runs::run(settings, list, start, 1, unique, register, ram, log)
 }
 
 // A run with a label for each byte of each space, 0 public or 1 secret: paper 01's labelled run.
@@ -78,29 +65,17 @@ pub fn labelled_run(
     ram_labels: &mut [u8],
     log: &mut [u64],
 ) -> Report
-    ensures { λ r. ⌜ labelled r (spaces (now (unique .exit)) (now (register .exit)) (now (ram .exit)))
-        (spaces (now («unique_labels» .exit)) (now («register_labels» .exit)) (now («ram_labels» .exit))) (now (log .exit))
-        ≡ labelledRun settings (now (list .entry)) start budget (now (log .entry))
-        (spaces (now («unique_labels» .entry)) (now («register_labels» .entry)) (now («ram_labels» .entry)))
-        (spaces (now (unique .entry)) (now (register .entry)) (now (ram .entry))) ⌝ }
+    ensures { λ r. ⌜ LabelledRunPromise settings (now (list .entry)) start budget
+        (spaces (now (unique .entry)) (now (register .entry)) (now (ram .entry)))
+        (spaces (now («unique_labels» .entry)) (now («register_labels» .entry)) (now («ram_labels» .entry))) (now (log .entry))
+        (spaces (now (unique .exit)) (now (register .exit)) (now (ram .exit)))
+        (spaces (now («unique_labels» .exit)) (now («register_labels» .exit)) (now («ram_labels» .exit))) (now (log .exit)) r ⌝ }
 {
-    let refused = labelled_refusal(
+    runs::labelled_run(
         settings,
         list,
         start,
-        unique,
-        register,
-        ram,
-        unique_labels,
-        register_labels,
-        ram_labels,
-    );
-    if refused.ending != 0 {
-        return refused;
-    }
-    run_labelled(
-        settings.order == 1,
-        list,
+        budget,
         unique,
         register,
         ram,
@@ -108,8 +83,6 @@ pub fn labelled_run(
         register_labels,
         ram_labels,
         log,
-        start as usize,
-        budget as u64,
     )
 }
 
@@ -126,13 +99,13 @@ pub fn labelled_step(
     ram_labels: &mut [u8],
     log: &mut [u64],
 ) -> Report
-    ensures { λ r. ⌜ labelled r (spaces (now (unique .exit)) (now (register .exit)) (now (ram .exit)))
-        (spaces (now («unique_labels» .exit)) (now («register_labels» .exit)) (now («ram_labels» .exit))) (now (log .exit))
-        ≡ labelledStep settings (now (list .entry)) start (now (log .entry))
-        (spaces (now («unique_labels» .entry)) (now («register_labels» .entry)) (now («ram_labels» .entry)))
-        (spaces (now (unique .entry)) (now (register .entry)) (now (ram .entry))) ⌝ }
+    ensures { λ r. ⌜ LabelledRunPromise settings (now (list .entry)) start 1
+        (spaces (now (unique .entry)) (now (register .entry)) (now (ram .entry)))
+        (spaces (now («unique_labels» .entry)) (now («register_labels» .entry)) (now («ram_labels» .entry))) (now (log .entry))
+        (spaces (now (unique .exit)) (now (register .exit)) (now (ram .exit)))
+        (spaces (now («unique_labels» .exit)) (now («register_labels» .exit)) (now («ram_labels» .exit))) (now (log .exit)) r ⌝ }
 {
-    labelled_run(
+    runs::labelled_run(
         settings,
         list,
         start,

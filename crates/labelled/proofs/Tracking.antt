@@ -16,7 +16,7 @@ use Rattle.operation.specs.Layout.{operationCount, varnodeAt}
 use Rattle.machine.specs.Memory.{Memory, OfBytes, lengthsOf, valueAt, written}
 use Rattle.machine.specs.Effect.{operationAt}
 use Rattle.machine.specs.Run.{Stepped, logWord, advanced, ended, continued, run}
-use Rattle.machine.specs.Calls.{Outcome, unlabelled, outcomeOf}
+use Rattle.machine.specs.Calls.{Outcome, unlabelled, outcomeOf, plainOutcome}
 use Rattle.machine.specs.Conditions.{Words, leaks, becomesSecret}
 use Rattle.machine.proofs.Cases.{either}
 use Rattle.machine.proofs.Plain.{nothing-written}
@@ -26,7 +26,7 @@ use Rattle.memory.specs.Placed.{Placed}
 use Rattle.plan.specs.declared.Plan.{Plan}
 use Rattle.plan.specs.Valid.{Valid}
 use Rattle.plan.specs.Plans.{planned}
-use Rattle.execution.specs.Loops.{position, plainly}
+use Rattle.execution.specs.Loops.{position}
 use Rattle.plan.proofs.Bounds.{next-within}
 use Rattle.plan.proofs.Steps.{wordsOf, carried, stepped-planned}
 use Rattle.execution.proofs.Running as running
@@ -133,7 +133,7 @@ module _ (big : Bool) (list : List ℕ) (budget start : ℕ) (log₀ : List ℕ)
     no-room n e = rw (room-is (length log) k (g .logs .place)) e
 
     module _ (public : leaks labels (operationAt list i) ≡ false) (r : Report) (m′ : Memory) (log′ : List ℕ)
-        (e : plainly r m′ log′ ≡ outcomeOf log (run big list 1 (position i k 0 log) unlabelled m)) where
+        (e : plainOutcome r m′ log′ ≡ outcomeOf log (run big list 1 (position i k 0 log) unlabelled m)) where
       labelled-step : run big list (budget - executed) (position i k executed log) labels m
           ≡ continued (run big list (budget - (executed + 1))) (carried big P (position i k executed log) (becomesSecret big labels m (operationAt list i)) labels m)
       labelled-step = run-step ∙ rw public refl
@@ -149,8 +149,8 @@ module _ (big : Bool) (list : List ℕ) (budget start : ℕ) (log₀ : List ℕ)
             (written labels (P .target) (replicate (P .target .size) (flag (becomesSecret big labels m (operationAt list i))))) m′ → Done
 
       -- what the plain call left, where its definition gives an outcome
-      module _ (r₁ : Report) (m₁ : Memory) (log₁ : List ℕ) (q : plainly r₁ m₁ log₁ ≡ outcomeOf log (run big list 1 (position i k 0 log) unlabelled m)) where
-        both-ways : plainly r m′ log′ ≡ plainly r₁ m₁ log₁
+      module _ (r₁ : Report) (m₁ : Memory) (log₁ : List ℕ) (q : plainOutcome r₁ m₁ log₁ ≡ outcomeOf log (run big list 1 (position i k 0 log) unlabelled m)) where
+        both-ways : plainOutcome r m′ log′ ≡ plainOutcome r₁ m₁ log₁
         both-ways = e ∙ sym q
 
         report-is : r ≡ r₁

@@ -4,10 +4,9 @@ ghost use Prim.Native.Nat.{_≤_};
 ghost use Rattle.operation.specs.Layout.{operationCount};
 ghost use Rattle.machine.specs.Memory.{spaces, lengthsOf};
 ghost use Rattle.machine.specs.Run.{run};
-ghost use Rattle.machine.specs.Calls.{outcomeOf};
+ghost use Rattle.machine.specs.Calls.{outcomeOf, labelledOutcome};
 ghost use Rattle.plan.specs.Valid.{Valid};
 ghost use Rattle.execution.specs.Loops.{position};
-ghost use Rattle.labelled.specs.Left.{labelled};
 use execution::report;
 use execution::run_from;
 use memory::labels::mark;
@@ -34,7 +33,7 @@ pub fn run_labelled(
 ) -> Report
     requires { ⌜ Valid (lengthsOf (spaces (now unique) (now register) (now ram))) (now list) × (start ≤ operationCount (now list))
         × (lengthsOf (spaces (now «unique_labels») (now «register_labels») (now «ram_labels»)) ≡ lengthsOf (spaces (now unique) (now register) (now ram))) ⌝ }
-    ensures { λ r. ⌜ labelled r (spaces (now (unique .exit)) (now (register .exit)) (now (ram .exit)))
+    ensures { λ r. ⌜ labelledOutcome r (spaces (now (unique .exit)) (now (register .exit)) (now (ram .exit)))
         (spaces (now («unique_labels» .exit)) (now («register_labels» .exit)) (now («ram_labels» .exit))) (now (log .exit))
         ≡ outcomeOf (now (log .entry)) (run big (now (list .entry)) budget (position start 0 0 (now (log .entry)))
         (spaces (now («unique_labels» .entry)) (now («register_labels» .entry)) (now («ram_labels» .entry)))

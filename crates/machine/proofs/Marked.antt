@@ -39,6 +39,6 @@ marked = record {
   subpiece-drops-4 = (refl, refl);
   piece = (refl, refl);
   popcount = (refl, refl);
-  branch = refl;
+  branch = (refl, refl);
   copy-overlapping = (refl, refl);
 }

@@ -88,35 +88,39 @@ module _ (settings : Settings) (list : List ℕ) (start budget : ℕ) where
 
 -- ---- the plain run
 
-outcome-same : (log : List ℕ) {r q : Ended} → SameRun r q → PlainAlike (outcomeOf log q) (outcomeOf log r)
+outcome-same : (log log′ : List ℕ) {r q : Ended} → SameRun r q → PlainAlike (outcomeOf log q) (outcomeOf log′ r)
 unfolding outcomeOf
-outcome-same log {r} {q} v = record {
+outcome-same log log′ {r} {q} v = record {
   report = rw (v .ending, v .value, v .position);
-  log = rw (v .position);
+  log = logged-words (r .position .log) log′ ∙ ap (λ (at : Position). at .log) (v .position) ∙ sym (logged-words (q .position .log) log);
   memory = v .memory;
 }
 
 module _ (settings : Settings) (list : List ℕ) (start budget : ℕ) where
-  called-same : (log : List ℕ) (labels m : Memory) (refused : Report) → (called settings list start budget log labels m refused .report .ending ≡ 31 → ⊥)
-      → PlainAlike (called settings list start budget log labels m refused) (called settings list start budget log unlabelled m refused)
+  called-same : (log log′ : List ℕ) → length log′ ≡ length log → (labels m : Memory) (refused : Report) → refused .logged ≡ 0
+      → (called settings list start budget log labels m refused .report .ending ≡ 31 → ⊥)
+      → PlainAlike (called settings list start budget log labels m refused) (called settings list start budget log′ unlabelled m refused)
   unfolding called outcomeOf
-  called-same log labels m refused = by (eqb (refused .ending) 0)
+  called-same log log′ e labels m refused none = by (eqb (refused .ending) 0)
     where
-      lent : Memory → Outcome
-      lent l = record { report = refused; memory = m; labels = l; log = log }
+      lent : List ℕ → Memory → Outcome
+      lent w l = record { report = refused; memory = m; labels = l; log = w }
 
-      runs : Memory → Ended
-      runs l = run (eqb (settings .order) 1) list budget (starting start (length log)) l m
+      runs : List ℕ → Memory → Ended
+      runs w l = run (eqb (settings .order) 1) list budget (starting start (length w)) l m
 
-      by : (t : Bool) → (cond t (outcomeOf log (runs labels)) (lent labels) .report .ending ≡ 31 → ⊥)
-          → PlainAlike (cond t (outcomeOf log (runs labels)) (lent labels)) (cond t (outcomeOf log (runs unlabelled)) (lent unlabelled))
-      by true ne = outcome-same log (run-same (eqb (settings .order) 1) list budget (starting start (length log)) labels m ne)
-      by false ne = record { report = refl; log = refl; memory = refl }
+      by : (t : Bool) → (cond t (outcomeOf log (runs log labels)) (lent log labels) .report .ending ≡ 31 → ⊥)
+          → PlainAlike (cond t (outcomeOf log (runs log labels)) (lent log labels)) (cond t (outcomeOf log′ (runs log′ unlabelled)) (lent log′ unlabelled))
+      by true ne = rw e (outcome-same log log′ (run-same (eqb (settings .order) 1) list budget (starting start (length log)) labels m ne))
+      by false ne = record { report = refl; log = rw none refl; memory = refl }
 
   plain-same : (log : List ℕ) (labels m : Memory) → Labelled labels m → (labelledRun settings list start budget log labels m .report .ending ≡ 31 → ⊥)
-      → PlainAlike (labelledRun settings list start budget log labels m) (plainRun settings list start budget log m)
+      → (log′ : List ℕ) → length log′ ≡ length log
+      → PlainAlike (labelledRun settings list start budget log labels m) (plainRun settings list start budget log′ m)
   unfolding labelledRun plainRun
-  plain-same log labels m l = rw (l .lengths, l .values) (called-same log labels m (refusal settings (lengthsOf m) list start true true))
+  plain-same log labels m l ne log′ e =
+      let none = nothing-ran (refusal-refuses settings (lengthsOf m) list start true true) .1 in
+      rw (l .lengths, l .values) (called-same log log′ e labels m (refusal settings (lengthsOf m) list start true true) none (rw (l .lengths, l .values) at ne))
 
 pub noninterference : Noninterference
 noninterference settings list start budget log log′ e labels first second l = record {

@@ -19,6 +19,17 @@ pub record Outcome : Type 0 where
   pub labels : Memory
   pub log : List ℕ
 
+-- What a plain run leaves: it has no labels, so every byte is public.
+unfoldable pub unlabelled : Memory
+unlabelled = record { unique = []; register = []; ram = [] }
+
+abbrev pub plainOutcome : Report → (memory : Memory) → (log : List ℕ) → Outcome
+plainOutcome report m log = record { report = report; memory = m; labels = unlabelled; log = log }
+
+-- What a labelled run leaves.
+abbrev pub labelledOutcome : Report → (memory labels : Memory) → (log : List ℕ) → Outcome
+labelledOutcome report m labels log = record { report = report; memory = m; labels = labels; log = log }
+
 -- ---- refusals
 
 -- 11 LENGTH, for labels: label and space lengths unequal.
@@ -79,10 +90,6 @@ unfoldable pub labelledRun : Settings → (list : List ℕ) → (start budget : 
 labelledRun settings list start budget log labels m =
     called settings list start budget log labels m
     (refusal settings (lengthsOf m) list start (sameLengths (lengthsOf labels) (lengthsOf m)) (labelsInRange labels))
-
--- A plain run has no labels: every byte is public.
-unfoldable pub unlabelled : Memory
-unlabelled = record { unique = []; register = []; ram = [] }
 
 unfoldable pub plainRun : Settings → (list : List ℕ) → (start budget : ℕ) → (log : List ℕ) → (memory : Memory) → Outcome
 plainRun settings list start budget log m =

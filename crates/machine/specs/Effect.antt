@@ -74,7 +74,7 @@ guarded compute op = []
 
 -- ---- what is read for the value written, and where that value goes; `pointer` is the value of LOAD's or STORE's input1
 
--- The bytes that LOAD loads or STORE stores, in the space that input0 names.
+-- The bytes that LOAD loads or STORE stores to, in the space that input0 names.
 unfoldable pub pointed : Operation → (pointer size : ℕ) → Varnode
 pointed op pointer size = record { space = op .input0 .offset; offset = pointer; size = size }
 

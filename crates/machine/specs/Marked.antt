@@ -1,20 +1,16 @@
 -- Paper 01, 'Marked results', those marked P: each as the effect of one operation, given as its five words, on stated bytes of the
--- register space, in both byte orders.
+-- register space, in both byte orders; the branch has no bytes.
 use Prim.Native.Nat.{ℕ}
 use mathlib.Core.List.{List, [], _∷_, _++_}
 use mathlib.Core.Path.{_≡_}
-use Rattle.machine.specs.Calls.{unlabelled, plainRun}
+use Rattle.machine.specs.Memory.{spaces}
+use Rattle.machine.specs.Calls.{plainOutcome, plainRun}
 
 -- A run of the operation alone, address size 8, ends with END after this operation and leaves these bytes.
 abbrev pub Gives : (order : ℕ) (operation before after : List ℕ) → Type 0
 Gives order operation before after =
-    plainRun (record { order = order; «address_size» = 8 }) operation 0 1 [] (record { unique = []; register = before; ram = [] })
-    ≡ record {
-      report = record { ending = 0; index = 1; executed = 1; logged = 0; value = 0 };
-      memory = record { unique = []; register = after; ram = [] };
-      labels = unlabelled;
-      log = [];
-    }
+    plainRun (record { order = order; «address_size» = 8 }) operation 0 1 [] (spaces [] before [])
+    ≡ plainOutcome (record { ending = 0; index = 1; executed = 1; logged = 0; value = 0 }) (spaces [] after []) []
 
 -- A BRANCH by an offset.
 abbrev pub branchBy : (offset : ℕ) → List ℕ
@@ -24,6 +20,12 @@ branchBy offset = 0x180004 ∷ 0 ∷ offset ∷ 0 ∷ 0 ∷ []
 abbrev pub nineBranches : List ℕ
 nineBranches =
     branchBy 0 ++ branchBy 0 ++ branchBy 0 ++ branchBy 0 ++ branchBy 0 ++ branchBy 3 ++ branchBy 0 ++ branchBy 0 ++ branchBy 0
+
+-- A run of it from index 5, over empty spaces, is at index 8 after one operation.
+abbrev pub Branches : (order : ℕ) → Type 0
+Branches order =
+    plainRun (record { order = order; «address_size» = 8 }) nineBranches 5 1 [] (spaces [] [] [])
+    ≡ plainOutcome (record { ending = 2; index = 8; executed = 1; logged = 0; value = 0 }) (spaces [] [] []) []
 
 pub record Marked : Type 0 where
   -- INT_ADD size 1: ff + 01 = 00; INT_CARRY 1, INT_SCARRY 0.
@@ -75,8 +77,7 @@ pub record Marked : Type 0 where
   pub popcount : (Gives 0 (0x0034310c ∷ 4 ∷ 0 ∷ 0 ∷ 0 ∷ []) (0xff ∷ 0xff ∷ 0xff ∷ 0xff ∷ 0xaa ∷ []) (0xff ∷ 0xff ∷ 0xff ∷ 0xff ∷ 0x20 ∷ []))
       × (Gives 1 (0x0034310c ∷ 4 ∷ 0 ∷ 0 ∷ 0 ∷ []) (0xff ∷ 0xff ∷ 0xff ∷ 0xff ∷ 0xaa ∷ []) (0xff ∷ 0xff ∷ 0xff ∷ 0xff ∷ 0x20 ∷ []))
   -- BRANCH at index 5 by 3 goes to 8.
-  pub branch : plainRun (record { order = 0; «address_size» = 8 }) nineBranches 5 1 [] unlabelled
-      ≡ record { report = record { ending = 2; index = 8; executed = 1; logged = 0; value = 0 }; memory = unlabelled; labels = unlabelled; log = [] }
+  pub branch : (Branches 0) × (Branches 1)
   -- bytes 01 02 03 04, COPY of 2 bytes from 0 to 1: 01 01 02 04.
   pub copy-overlapping : (Gives 0 (0x00323201 ∷ 1 ∷ 0 ∷ 0 ∷ 0 ∷ []) (0x01 ∷ 0x02 ∷ 0x03 ∷ 0x04 ∷ []) (0x01 ∷ 0x01 ∷ 0x02 ∷ 0x04 ∷ []))
       × (Gives 1 (0x00323201 ∷ 1 ∷ 0 ∷ 0 ∷ 0 ∷ []) (0x01 ∷ 0x02 ∷ 0x03 ∷ 0x04 ∷ []) (0x01 ∷ 0x01 ∷ 0x02 ∷ 0x04 ∷ []))

@@ -30,19 +30,21 @@ pub record Labelled (labels memory : Memory) : Type 0 where
   pub lengths : sameLengths (lengthsOf labels) (lengthsOf memory) ≡ true
   pub values : labelsInRange labels ≡ true
 
--- The same report, log and bytes, unless the labelled run ended with LEAK (31).
+-- The same report, log and bytes.
 pub record PlainAlike (labelled plain : Outcome) : Type 0 where
   pub report : plain .report ≡ labelled .report
-  pub log : plain .log ≡ labelled .log
+  pub log : loggedWords plain ≡ loggedWords labelled
   pub memory : plain .memory ≡ labelled .memory
 
--- What is shown of two memories by their labelled runs, and by the plain run of each.
+-- What is shown of two memories by their labelled runs, and by the plain run of each, unless the labelled run ended with LEAK (31).
 pub record NothingShown (settings : Settings) (list : List ℕ) (start budget : ℕ) (log log′ : List ℕ) (labels first second : Memory) : Type 0 where
   pub runs : Indistinguishable (labelledRun settings list start budget log labels first) (labelledRun settings list start budget log′ labels second)
   pub firstPlain : Labelled labels first → (labelledRun settings list start budget log labels first .report .ending ≡ 31 → ⊥)
-      → PlainAlike (labelledRun settings list start budget log labels first) (plainRun settings list start budget log first)
+      → (plainLog : List ℕ) → length plainLog ≡ length log
+      → PlainAlike (labelledRun settings list start budget log labels first) (plainRun settings list start budget plainLog first)
   pub secondPlain : Labelled labels second → (labelledRun settings list start budget log′ labels second .report .ending ≡ 31 → ⊥)
-      → PlainAlike (labelledRun settings list start budget log′ labels second) (plainRun settings list start budget log′ second)
+      → (plainLog : List ℕ) → length plainLog ≡ length log′
+      → PlainAlike (labelledRun settings list start budget log′ labels second) (plainRun settings list start budget plainLog second)
 
 -- Demand 3, whatever the list, the settings, the start, the budget, the labels, and the log buffers of equal lengths.
 abbrev pub Noninterference : Type 0

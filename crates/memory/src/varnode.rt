@@ -1,25 +1,36 @@
 // The value of a varnode, read from and written to the three lent spaces.
 ghost use mathlib.Core.Path.{_≡_};
+ghost use Prim.Native.Nat.{_≤_};
 ghost use Rattle.word.specs.Word.{bytesOf};
-ghost use Rattle.machine.specs.Memory.{spaces, valueAt, written};
+ghost use Rattle.machine.specs.Memory.{spaces, spaceOf, valueAt, written};
 ghost use Rattle.memory.specs.Placed.{Placed};
 use operation::layout::Varnode;
 use word::bytes::gather;
 use word::bytes::scatter;
 
 // The value of a varnode; an absent one has 0.
-pub fn read(big: bool, unique: &[u8], register: &[u8], ram: &[u8], v: Varnode) -> u64
+pub fn read<'a>(big: bool, unique: &'a [u8], register: &'a [u8], ram: &'a [u8], v: Varnode) -> u64
     requires { ⌜ Placed (spaces (now unique) (now register) (now ram)) v ⌝ }
     ensures { λ r. ⌜ r ≡ valueAt big (spaces (now (unique .entry)) (now (register .entry)) (now (ram .entry))) v ⌝ }
 {
-    let space = v.space;
+    if v.space < 2 {
+        return v.offset;
+    }
+    let bytes = space_of(unique, register, ram, v.space);
     let at = v.offset as usize;
     let size = v.size as usize;
+    gather(big, bytes, at, size)
+}
+
+// The bytes of a space with bytes, by its number.
+fn space_of<'a>(unique: &'a [u8], register: &'a [u8], ram: &'a [u8], space: u64) -> &'a [u8]
+    requires { ⌜ (2 ≤ space) × (space ≤ 4) ⌝ }
+    ensures { λ r. ⌜ now r ≡ spaceOf (spaces (now (unique .entry)) (now (register .entry)) (now (ram .entry))) space ⌝ }
+{
     match space {
-        2 => gather(big, unique, at, size),
-        3 => gather(big, register, at, size),
-        4 => gather(big, ram, at, size),
-        _ => v.offset,
+        2 => unique,
+        3 => register,
+        _ => ram,
     }
 }
 

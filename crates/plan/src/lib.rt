@@ -116,12 +116,12 @@ fn choose(first: bool, a: Varnode, b: Varnode) -> Varnode
 }
 
 // LOAD and STORE at a pointer: one read and one write, from or to the bytes there.
-fn move_at(
+fn move_at<'a>(
     big: bool,
     list: &[u64],
-    unique: &[u8],
-    register: &[u8],
-    ram: &[u8],
+    unique: &'a [u8],
+    register: &'a [u8],
+    ram: &'a [u8],
     i: usize,
     pointer: u64,
 ) -> Plan
@@ -155,12 +155,12 @@ fn move_at(
 }
 
 // The plan of operation i. Input1 is read for every operation: it is the pointer, the condition or the second operand, and 0 if absent.
-pub fn plan_at(
+pub fn plan_at<'a>(
     big: bool,
     list: &[u64],
-    unique: &[u8],
-    register: &[u8],
-    ram: &[u8],
+    unique: &'a [u8],
+    register: &'a [u8],
+    ram: &'a [u8],
     i: usize,
 ) -> Plan
     requires { ⌜ Valid (lengthsOf (spaces (now unique) (now register) (now ram))) (now list) × (i < operationCount (now list)) ⌝ }

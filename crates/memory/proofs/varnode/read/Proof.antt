@@ -1,54 +1,26 @@
 -- `memory::varnode::read` meets its contract. Assumes nothing.
-use mathlib.Core.Path.{sym, _∙_}
-use lib.Dec.{lit≤}
-use Rattle.machine.specs.Memory.{spaceOf}
-use Rattle.memory.proofs.Spaces.{placed-in, value-in, value-elsewhere}
+use Rattle.memory.proofs.Spaces.{value-in, value-elsewhere}
+use native.Mathlib.Omega.{arith}
+use mathlib.Core.Path.{refl, sym, _∙_}
 use Rattle.memory.proofs.varnode.read.Statement.{statement}
 use Rattle.memory.proofs.varnode.read.Tie as tie
+use Rattle.memory.proofs.varnode.read.Lts as lts
 
-gather-requires : tie.Need-gather-requires
-unfolding spaceOf
-gather-requires c κs =
-    let p = c .before .before .before .before .pre in
-    (p .size, placed-in _ _ 2 (c .match .keys1) (lit≤ tt) p)
-
-gather-requires-2 : tie.Need-gather-requires-2
-unfolding spaceOf
-gather-requires-2 c κs =
-    let p = c .before .before .before .before .pre in
-    (p .size, placed-in _ _ 3 (c .match .keys2) (lit≤ tt) p)
-
-gather-requires-3 : tie.Need-gather-requires-3
-unfolding spaceOf
-gather-requires-3 c κs =
-    let p = c .before .before .before .before .pre in
-    (p .size, placed-in _ _ 4 (c .match .keys3) (lit≤ tt) p)
-
+-- src/varnode.rt:17:9
 returns : tie.Need-returns
-unfolding spaceOf
-returns c = c .gather .ensures ∙ sym (value-in _ _ 2 (c .before .match .keys1) (lit≤ tt) _)
+returns c = sym (value-elsewhere _ _ (λ e. omega arith) (λ e. omega arith) (λ e. omega arith) (c .before .before .before .before .before .pre) _)
 
+-- src/varnode.rt:19:9
+space-of-requires : tie.Need-space-of-requires
+space-of-requires c κs = (c .if1 .left, c .before .before .before .before .before .pre .known)
+
+-- src/varnode.rt:22:5
+gather-requires : tie.Need-gather-requires
+gather-requires c κs = (c .before .before .before .before .before .before .pre .size, rw (c .space-of .ensures) (c .before .before .before .before .before .before .pre .within (c .before .if1 .left)))
+
+-- src/varnode.rt:12:1
 returns-2 : tie.Need-returns-2
-unfolding spaceOf
-returns-2 c = c .gather2 .ensures ∙ sym (value-in _ _ 3 (c .before .match .keys2) (lit≤ tt) _)
-
-returns-3 : tie.Need-returns-3
-unfolding spaceOf
-returns-3 c = c .gather3 .ensures ∙ sym (value-in _ _ 4 (c .before .match .keys3) (lit≤ tt) _)
-
-returns-4 : tie.Need-returns-4
-returns-4 c =
-    let r = c .match .rest in
-    sym (value-elsewhere _ _ (r .0 .0 .1) (r .0 .1) (r .1) (c .before .before .before .before .pre) _)
+returns-2 c = c .gather .ensures ∙ rw (c .before .space-of .ensures) (sym (value-in _ _ _ refl (c .before .before .if1 .left) _))
 
 pub read-spec : {M : Type 1} → statement M
-read-spec =
-    tie.close
-    (tie.spec
-    gather-requires
-    gather-requires-2
-    gather-requires-3
-    returns
-    returns-2
-    returns-3
-    returns-4)
+read-spec = tie.close (tie.spec returns space-of-requires gather-requires returns-2)

@@ -1,10 +1,10 @@
--- `interpreter::labelled_run` meets its contract. Assumes nothing.
-use Rattle.interpreter.proofs.Accepted.{accepted, same-lengths-are, leaves-as-lent, leaves-run}
+-- `runs::labelled_run` meets its contract. Assumes nothing.
+use Rattle.runs.proofs.Accepted.{accepted, same-lengths-are, leaves-as-lent, leaves-run}
 use Rattle.machine.specs.Calls.{labelledRun}
 use mathlib.Core.Path.{refl, _∙_}
-use Rattle.interpreter.proofs.labelled_run.Statement.{statement}
-use Rattle.interpreter.proofs.labelled_run.Tie as tie
-use Rattle.interpreter.proofs.labelled_run.Lts as lts
+use Rattle.runs.proofs.labelled_run.Statement.{statement}
+use Rattle.runs.proofs.labelled_run.Tie as tie
+use Rattle.runs.proofs.labelled_run.Lts as lts
 
 -- src/lib.rt:94:9
 labelled-refusal-requires : tie.Need-labelled-refusal-requires

@@ -1,11 +1,11 @@
--- `interpreter::run` meets its contract. Assumes nothing.
-use Rattle.interpreter.proofs.Accepted.{accepted, leaves-as-lent, leaves-run}
+-- `runs::run` meets its contract. Assumes nothing.
+use Rattle.runs.proofs.Accepted.{accepted, leaves-as-lent, leaves-run}
 use Rattle.machine.specs.Calls.{plainRun}
 use native.Mathlib.Omega.{arith}
 use mathlib.Core.Path.{refl, _∙_}
-use Rattle.interpreter.proofs.run.Statement.{statement}
-use Rattle.interpreter.proofs.run.Tie as tie
-use Rattle.interpreter.proofs.run.Lts as lts
+use Rattle.runs.proofs.run.Statement.{statement}
+use Rattle.runs.proofs.run.Tie as tie
+use Rattle.runs.proofs.run.Lts as lts
 
 -- src/lib.rt:40:9
 plain-refusal-requires : tie.Need-plain-refusal-requires

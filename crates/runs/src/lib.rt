@@ -1,0 +1,84 @@
+// The runs with their refusals: crates/interpreter has them as public calls.
+ghost use mathlib.Core.Path.{_≡_};
+ghost use Rattle.machine.specs.Memory.{spaces};
+ghost use Rattle.runs.specs.Promises.{RunPromise, LabelledRunPromise};
+use execution::run_from;
+use labelled::run_labelled;
+use operation::layout::Settings;
+use operation::report::Report;
+use refusal::labelled_refusal;
+use refusal::plain_refusal;
+
+// A run of at most `budget` operations, from operation `start`, without labels: paper 01's plain run.
+pub fn run(
+    settings: Settings,
+    list: &[u64],
+    start: u64,
+    budget: u32,
+    unique: &mut [u8],
+    register: &mut [u8],
+    ram: &mut [u8],
+    log: &mut [u64],
+) -> Report
+    ensures { λ r. ⌜ RunPromise settings (now (list .entry)) start budget
+        (spaces (now (unique .entry)) (now (register .entry)) (now (ram .entry))) (now (log .entry))
+        (spaces (now (unique .exit)) (now (register .exit)) (now (ram .exit))) (now (log .exit)) r ⌝ }
+{
+    let refused = plain_refusal(settings, list, start, unique, register, ram);
+    if refused.ending != 0 {
+        return refused;
+    }
+    let big = settings.order == 1;
+    let at = start as usize;
+    let most = budget as u64;
+    run_from(big, list, unique, register, ram, log, at, 0, most)
+}
+
+// A run with a label for each byte of each space, 0 public or 1 secret: paper 01's labelled run.
+pub fn labelled_run(
+    settings: Settings,
+    list: &[u64],
+    start: u64,
+    budget: u32,
+    unique: &mut [u8],
+    register: &mut [u8],
+    ram: &mut [u8],
+    unique_labels: &mut [u8],
+    register_labels: &mut [u8],
+    ram_labels: &mut [u8],
+    log: &mut [u64],
+) -> Report
+    ensures { λ r. ⌜ LabelledRunPromise settings (now (list .entry)) start budget
+        (spaces (now (unique .entry)) (now (register .entry)) (now (ram .entry)))
+        (spaces (now («unique_labels» .entry)) (now («register_labels» .entry)) (now («ram_labels» .entry))) (now (log .entry))
+        (spaces (now (unique .exit)) (now (register .exit)) (now (ram .exit)))
+        (spaces (now («unique_labels» .exit)) (now («register_labels» .exit)) (now («ram_labels» .exit))) (now (log .exit)) r ⌝ }
+{
+    let refused = labelled_refusal(
+        settings,
+        list,
+        start,
+        unique,
+        register,
+        ram,
+        unique_labels,
+        register_labels,
+        ram_labels,
+    );
+    if refused.ending != 0 {
+        return refused;
+    }
+    run_labelled(
+        settings.order == 1,
+        list,
+        unique,
+        register,
+        ram,
+        unique_labels,
+        register_labels,
+        ram_labels,
+        log,
+        start as usize,
+        budget as u64,
+    )
+}
