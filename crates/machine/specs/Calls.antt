@@ -19,10 +19,11 @@ pub record Outcome : Type 0 where
   pub labels : Memory
   pub log : List ℕ
 
--- What a plain run leaves: it has no labels, so every byte is public.
+-- A plain run has no labels: every byte is public.
 unfoldable pub unlabelled : Memory
 unlabelled = record { unique = []; register = []; ram = [] }
 
+-- What a plain run leaves.
 abbrev pub plainOutcome : Report → (memory : Memory) → (log : List ℕ) → Outcome
 plainOutcome report m log = record { report = report; memory = m; labels = unlabelled; log = log }
 
@@ -41,6 +42,7 @@ unfoldable pub allLabels : List ℕ → Bool
 allLabels [] = true
 allLabels (l ∷ ls) = leb l 1 && allLabels ls
 
+-- Of all three spaces.
 unfoldable pub labelsInRange : Memory → Bool
 labelsInRange labels = allLabels (labels .unique) && allLabels (labels .register) && allLabels (labels .ram)
 
@@ -61,6 +63,7 @@ refusal settings lengths list start fitting valid =
 unfoldable pub logAfter : (words log : List ℕ) → List ℕ
 logAfter words log = words ++ drop (length words) log
 
+-- The report has five numbers: ending, index, operations executed, log words written, value.
 unfoldable pub outcomeOf : (log : List ℕ) → Ended → Outcome
 outcomeOf log r =
     record {
@@ -76,6 +79,7 @@ outcomeOf log r =
       log = logAfter (r .position .log) log;
     }
 
+-- A run takes a start index; nothing is executed or logged yet.
 unfoldable pub starting : (start room : ℕ) → Position
 starting start room = record { index = start; room = room; executed = 0; log = [] }
 
@@ -86,11 +90,13 @@ called settings list start budget log labels m refused =
     (outcomeOf log (run (eqb (settings .order) 1) list budget (starting start (length log)) labels m))
     (record { report = refused; memory = m; labels = labels; log = log })
 
+-- The labelled run, with the refusals that its labels call for.
 unfoldable pub labelledRun : Settings → (list : List ℕ) → (start budget : ℕ) → (log : List ℕ) → (labels memory : Memory) → Outcome
 labelledRun settings list start budget log labels m =
     called settings list start budget log labels m
     (refusal settings (lengthsOf m) list start (sameLengths (lengthsOf labels) (lengthsOf m)) (labelsInRange labels))
 
+-- The plain run; no label can call for a refusal.
 unfoldable pub plainRun : Settings → (list : List ℕ) → (start budget : ℕ) → (log : List ℕ) → (memory : Memory) → Outcome
 plainRun settings list start budget log m =
     called settings list start budget log unlabelled m (refusal settings (lengthsOf m) list start true true)
@@ -99,5 +105,6 @@ plainRun settings list start budget log m =
 abbrev pub labelledStep : Settings → (list : List ℕ) → (start : ℕ) → (log : List ℕ) → (labels memory : Memory) → Outcome
 labelledStep settings list start log labels m = labelledRun settings list start 1 log labels m
 
+-- The plain step.
 abbrev pub plainStep : Settings → (list : List ℕ) → (start : ℕ) → (log : List ℕ) → (memory : Memory) → Outcome
 plainStep settings list start log m = plainRun settings list start 1 log m

@@ -69,6 +69,7 @@ branchTaken big m op = among (op .opcode) (4 ∷ 7 ∷ []) || taken big m op
 unfoldable pub exits : (big : Bool) → Memory → Operation → Bool
 exits big m op = (branchTaken big m op && eqb (op .input0 .space) 4) || among (op .opcode) (6 ∷ 8 ∷ 9 ∷ [])
 
+-- The value of EXIT: that offset, or the value of input0.
 unfoldable pub destination : (big : Bool) → Memory → Operation → ℕ
 destination big m op = cond (among (op .opcode) (6 ∷ 8 ∷ 9 ∷ [])) (valueAt big m (op .input0)) (op .input0 .offset)
 

@@ -15,6 +15,7 @@ use Rattle.machine.specs.Memory.{Memory, bytesAt, valueAt, ordered, digi
 
 -- ---- operations
 
+-- An opcode, an output and three inputs, each of which may be absent.
 pub record Operation : Type 0 where
   pub opcode : ℕ
   pub output : Varnode
@@ -22,6 +23,7 @@ pub record Operation : Type 0 where
   pub input1 : Varnode
   pub input2 : Varnode
 
+-- Operation i of a list.
 unfoldable pub operationAt : List ℕ → (i : ℕ) → Operation
 operationAt list i =
     record {
@@ -41,6 +43,7 @@ absent = record { space = 0; offset = 0; size = 0 }
 pub data Kind : Type 0 where
   copy load store branch cbranch jump piece subpiece divide compute : Kind
 
+-- The kind of an opcode.
 unfoldable pub kindOf : (opcode : ℕ) → Kind
 kindOf opcode =
     cond (eqb opcode 1) copy
@@ -56,6 +59,7 @@ kindOf opcode =
 
 -- ---- what must be public: 'LEAK: a secret byte in ..'
 
+-- The varnodes that must be public.
 unfoldable pub guarded : Kind → Operation → List Varnode
 -- the pointer of LOAD or STORE,
 guarded load op = op .input1 ∷ []
@@ -91,6 +95,7 @@ sources subpiece op pointer = op .input0 ∷ []
 sources divide op pointer = op .input0 ∷ op .input1 ∷ []
 sources compute op pointer = op .input0 ∷ op .input1 ∷ []
 
+-- Where the value goes: the output, or the bytes that STORE stores to; branches write nothing.
 unfoldable pub target : Kind → Operation → (pointer : ℕ) → Varnode
 target copy op pointer = op .output
 target load op pointer = op .output
@@ -113,10 +118,12 @@ moves op = among (op .opcode) (1 ∷ 2 ∷ 3 ∷ 10 ∷ 11 ∷ 19 ∷ [])
 unfoldable pub dropped : Operation → ℕ
 dropped op = cond (eqb (op .opcode) 11) (op .input1 .offset) 0
 
+-- The bytes of some varnodes, the least significant first, one varnode after the other.
 unfoldable pub digitsOf : (big : Bool) → Memory → List Varnode → List ℕ
 digitsOf big m [] = []
 digitsOf big m (v ∷ vs) = digitsAt big m v ++ digitsOf big m vs
 
+-- The values of some varnodes.
 unfoldable pub valuesOf : (big : Bool) → Memory → List Varnode → List ℕ
 valuesOf big m [] = []
 valuesOf big m (v ∷ vs) = valueAt big m v ∷ valuesOf big m vs

@@ -32,10 +32,12 @@ afterOperations big list zero s = s
 afterOperations big list (suc k) (Stepped.halted r) = Stepped.halted r
 afterOperations big list (suc k) (Stepped.going at labels m) = afterOperations big list k (stepped big list at labels m)
 
+-- Position, labels and memory, whether the run ended or goes on.
 unfoldable pub stateOf : Stepped → Position × Memory × Memory
 stateOf (Stepped.halted r) = (r .position, r .labels, r .memory)
 stateOf (Stepped.going at labels m) = (at, labels, m)
 
+-- All of these, of both runs.
 pub record Limits : Type 0 where
   pub labelledRefusal : (settings : Settings) (list : List ℕ) (start budget : ℕ) (log : List ℕ) (labels m : Memory)
       → 10 ≤ labelledRun settings list start budget log labels m .report .ending

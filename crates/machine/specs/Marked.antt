@@ -27,6 +27,7 @@ Branches order =
     plainRun (record { order = order; «address_size» = 8 }) nineBranches 5 1 [] (spaces [] [] [])
     ≡ plainOutcome (record { ending = 2; index = 8; executed = 1; logged = 0; value = 0 }) (spaces [] [] []) []
 
+-- All results marked P.
 pub record Marked : Type 0 where
   -- INT_ADD size 1: ff + 01 = 00; INT_CARRY 1, INT_SCARRY 0.
   pub add-wraps : (Gives 0 (0x31313115 ∷ 2 ∷ 0 ∷ 1 ∷ 0 ∷ []) (0xff ∷ 0x01 ∷ 0xaa ∷ []) (0xff ∷ 0x01 ∷ 0x00 ∷ []))

@@ -20,6 +20,7 @@ pub record Memory : Type 0 where
 abbrev pub spaces : (unique register ram : List ℕ) → Memory
 spaces unique register ram = record { unique = unique; register = register; ram = ram }
 
+-- The bytes of each space.
 unfoldable pub lengthsOf : Memory → Lengths
 lengthsOf m = record { unique = length (m .unique); register = length (m .register); ram = length (m .ram) }
 

@@ -23,6 +23,7 @@ pub record Summed (first second whole : Outcome) : Type 0 where
 abbrev pub unused : Outcome → List ℕ
 unused o = drop (o .report .logged) (o .log)
 
+-- Of the plain run.
 abbrev pub PlainResumes : Type 0
 PlainResumes = (settings : Settings) (list : List ℕ) (start budget further : ℕ) (log : List ℕ) (m : Memory)
     → (let first = plainRun settings list start budget log m in
@@ -30,6 +31,7 @@ PlainResumes = (settings : Settings) (list : List ℕ) (start budget further : �
     → Summed first (plainRun settings list (first .report .index) further (unused first) (first .memory))
     (plainRun settings list start (budget + further) log m))
 
+-- Of the labelled run.
 abbrev pub LabelledResumes : Type 0
 LabelledResumes = (settings : Settings) (list : List ℕ) (start budget further : ℕ) (log : List ℕ) (labels m : Memory)
     → (let first = labelledRun settings list start budget log labels m in

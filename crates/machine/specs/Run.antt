@@ -88,14 +88,17 @@ pub record Ended : Type 0 where
   pub labels : Memory
   pub memory : Memory
 
+-- After one operation a run has ended, or goes on.
 pub data Stepped : Type 0 where
   halted : Ended → Stepped
   going : Position → (labels memory : Memory) → Stepped
 
+-- An operation executed: it is counted, and its log words are written.
 unfoldable pub advanced : Position → (index : ℕ) → (words : List ℕ) → Position
 advanced at i words =
     record { index = i; room = at .room - length words; executed = suc (at .executed); log = at .log ++ words }
 
+-- An ending with its value.
 unfoldable pub ended : (ending value : ℕ) → Position → (labels memory : Memory) → Ended
 ended e v at labels m = record { ending = e; value = v; position = at; labels = labels; memory = m }
 
@@ -113,6 +116,8 @@ carriedOut big k op at labels m value (next words i) =
     (written labels (target k op value) (labelsWritten (target k op value .size) (sources k op value) labels))
     (written m (target k op value) (bytesWritten big op (target k op value .size) (sources k op value) m))
 
+-- One operation of a kind: what must be public is looked at first.
+-- One operation.
 unfoldable pub performedAs : (big : Bool) → Kind → Operation → Position → (labels memory : Memory) → Stepped
 performedAs big k op at labels m =
     carriedOut big k op at labels m (guardedValue big k op m)
@@ -130,6 +135,7 @@ stepped big list at labels m =
     (performed big (operationAt list (at .index)) at labels m)
     (halted (ended 0 0 at labels m))
 
+-- What a run does after one operation.
 unfoldable pub continued : (Position → Memory → Memory → Ended) → Stepped → Ended
 continued f (halted r) = r
 continued f (going at labels m) = f at labels m
