@@ -8,6 +8,7 @@
 pub mod answers;
 pub mod arithmetic;
 pub mod bytes;
+pub mod case;
 pub mod fault;
 pub mod list;
 pub mod machine;

@@ -6,15 +6,12 @@ use Rattle.execution.proofs.log_word.Statement.{statement}
 use Rattle.execution.proofs.log_word.Tie as tie
 use Rattle.execution.proofs.log_word.Lts as lts
 
--- src/run.rt:80:5
 mul-result : tie.Need-mul-result
 mul-result c = search needs
 
--- src/run.rt:80:5
 add-result : tie.Need-add-result
 add-result c = search needs
 
--- src/run.rt:76:1
 returns : tie.Need-returns
 unfolding logWord
 returns c = refl

@@ -7,27 +7,21 @@ use Rattle.execution.proofs.push.Statement.{statement}
 use Rattle.execution.proofs.push.Tie as tie
 use Rattle.execution.proofs.push.Lts as lts
 
--- src/run.rt:89:9
 mul-log : tie.Need-mul-log
 mul-log c = scaled-fits _ _ 8 (c .before .pre (c .if1 .taken)) (c .before .good .0 .1)
 
--- src/run.rt:89:9
 slice-write-log : tie.Need-slice-write-log
 slice-write-log c = c .before .pre (c .if1 .taken)
 
--- src/run.rt:90:16
 add-result : tie.Need-add-result
 add-result c = let h = c .before .pre (c .if1 .taken) in omega (arith, c .before .good .0 .0)
 
--- src/run.rt:90:9
 same-length : tie.Need-same-length
 same-length c = search needs
 
--- src/run.rt:90:9
 returns : tie.Need-returns
 returns c = let e = c .if1 .taken in (rw e refl, rw e refl)
 
--- src/run.rt:84:1
 returns-2 : tie.Need-returns-2
 returns-2 c = search needs
 

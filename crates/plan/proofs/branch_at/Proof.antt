@@ -6,53 +6,41 @@ use Rattle.plan.proofs.branch_at.Statement.{statement}
 use Rattle.plan.proofs.branch_at.Tie as tie
 use Rattle.plan.proofs.branch_at.Lts as lts
 
--- src/plan.rt:69:23
 opcode-at-requires : tie.Need-opcode-at-requires
 opcode-at-requires c κs = search needs
 
--- src/plan.rt:70:9
 varnode-at-requires : tie.Need-varnode-at-requires
 varnode-at-requires c κs = search needs
 
--- src/plan.rt:71:8
 both-requires : tie.Need-both-requires
 both-requires c κs = search needs
 
--- src/plan.rt:72:29
 add-unwritten : tie.Need-add-unwritten
 add-unwritten c = search needs
 
--- src/plan.rt:72:9
 unwritten-requires : tie.Need-unwritten-requires
 unwritten-requires c κs = search needs
 
--- src/plan.rt:72:9
 returns : tie.Need-returns
 unfolding operationAt
 returns c = skipped _ _ _ _ _ (c .before .before .before .before .opcode-at .ensures) (c .before .before .before .varnode-at .ensures) _ (c .before .before .both .ensures) _ (c .before .if1 .taken) (c .unwritten .ensures)
 
--- src/plan.rt:74:9
 flag-requires : tie.Need-flag-requires
 flag-requires c κs = search needs
 
--- src/plan.rt:76:9
 unwritten-requires-2 : tie.Need-unwritten-requires-2
 unwritten-requires-2 c κs = search needs
 
--- src/plan.rt:76:9
 returns-2 : tie.Need-returns-2
 unfolding operationAt
 returns-2 c = away _ _ _ _ _ (c .before .before .before .before .before .before .before .opcode-at .ensures) (c .before .before .before .before .before .before .varnode-at .ensures) _ (c .before .before .before .before .before .both .ensures) _ _ (c .before .before .before .flag .ensures) (c .before .before .before .before .if1 .left) (c .before .if2 .taken) (c .unwritten2 .ensures)
 
--- src/plan.rt:78:9
 wrapping-add-u64-requires : tie.Need-wrapping-add-u64-requires
 wrapping-add-u64-requires c κs = search needs
 
--- src/plan.rt:79:5
 unwritten-requires-3 : tie.Need-unwritten-requires-3
 unwritten-requires-3 c κs = search needs
 
--- src/plan.rt:65:1
 returns-3 : tie.Need-returns-3
 unfolding operationAt
 returns-3 c = along _ _ _ _ _ (c .before .before .before .before .before .before .before .before .opcode-at .ensures) (c .before .before .before .before .before .before .before .varnode-at .ensures) _ (c .before .before .before .before .before .before .both .ensures) _ _ (c .before .before .before .before .flag .ensures) (c .before .before .before .before .before .if1 .left) (c .before .before .if2 .left) _ (c .before .wrapping-add-u64 .ensures) (c .unwritten3 .ensures)

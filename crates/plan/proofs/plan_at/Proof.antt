@@ -11,57 +11,44 @@ use Rattle.plan.proofs.plan_at.Statement.{statement}
 use Rattle.plan.proofs.plan_at.Tie as tie
 use Rattle.plan.proofs.plan_at.Lts as lts
 
--- src/plan.rt:169:9
 opcode-at-requires : tie.Need-opcode-at-requires
 opcode-at-requires c κs = let h = in-words _ _ (c .before .before .before .before .pre .0) _ (c .before .before .before .before .pre .1) in omega arith
 
--- src/plan.rt:170:9
 varnode-at-requires : tie.Need-varnode-at-requires
 varnode-at-requires c κs = (in-words _ _ (c .before .before .before .before .before .pre .0) _ (c .before .before .before .before .before .pre .1), omega arith)
 
--- src/plan.rt:171:9
 read-requires : tie.Need-read-requires
 read-requires c κs = rw (c .varnode-at .ensures) (placed _ _ _ _ (c .before .before .before .before .before .before .pre .0 .operations _ (c .before .before .before .before .before .before .pre .1)) 2 (omega arith) (λ z. absurd (omega arith)))
 
--- src/plan.rt:172:8
 accesses-requires : tie.Need-accesses-requires
 accesses-requires c κs = search needs
 
--- src/plan.rt:173:9
 move-at-requires : tie.Need-move-at-requires
 move-at-requires c κs = (in-words _ _ (c .before .before .before .before .before .before .before .before .before .pre .0) _ (c .before .before .before .before .before .before .before .before .before .pre .1), index-small _ _ (c .before .before .before .before .before .before .before .before .before .pre .0) _ (c .before .before .before .before .before .before .before .before .before .pre .1), movable _ _ _ _ (c .before .before .before .before .before .before .before .before .before .pre .0 .operations _ (c .before .before .before .before .before .before .before .before .before .pre .1)) (rw (← (c .before .before .before .before .opcode-at .ensures)) (sym (c .before .accesses .ensures) ∙ c .if1 .taken)))
 
--- src/plan.rt:173:9
 returns : tie.Need-returns
 unfolding operationAt
 returns c = plan-move _ _ _ _ _ (c .before .before .before .before .before .opcode-at .ensures) _ (c .before .before .before .before .varnode-at .ensures) _ (c .before .before .before .read .ensures) _ _ (c .before .before .accesses .ensures) (c .before .if1 .taken) (c .move-at .ensures)
 
--- src/plan.rt:175:8
 branches-requires : tie.Need-branches-requires
 branches-requires c κs = search needs
 
--- src/plan.rt:176:9
 branch-at-requires : tie.Need-branch-at-requires
 branch-at-requires c κs = (in-words _ _ (c .before .before .before .before .before .before .before .before .before .before .before .pre .0) _ (c .before .before .before .before .before .before .before .before .before .before .before .pre .1), index-small _ _ (c .before .before .before .before .before .before .before .before .before .before .before .pre .0) _ (c .before .before .before .before .before .before .before .before .before .before .before .pre .1))
 
--- src/plan.rt:176:9
 returns-2 : tie.Need-returns-2
 unfolding operationAt
 returns-2 c = plan-branch _ _ _ _ _ (c .before .before .before .before .before .before .before .opcode-at .ensures) _ (c .before .before .before .before .before .before .varnode-at .ensures) _ (c .before .before .before .before .before .read .ensures) _ _ (c .before .before .before .before .accesses .ensures) (c .before .before .before .if1 .left) _ (c .before .before .branches .ensures) (c .before .if2 .taken) (c .branch-at .ensures)
 
--- src/plan.rt:178:9
 varnode-at-requires-2 : tie.Need-varnode-at-requires-2
 varnode-at-requires-2 c κs = (in-words _ _ (c .before .before .before .before .before .before .before .before .before .before .before .pre .0) _ (c .before .before .before .before .before .before .before .before .before .before .before .pre .1), omega arith)
 
--- src/plan.rt:179:9
 read-requires-2 : tie.Need-read-requires-2
 read-requires-2 c κs = rw (c .varnode-at2 .ensures) (placed _ _ _ _ (c .before .before .before .before .before .before .before .before .before .before .before .before .pre .0 .operations _ (c .before .before .before .before .before .before .before .before .before .before .before .before .pre .1)) 1 (omega arith) (λ z. rw (← (c .before .before .before .before .before .before .before .opcode-at .ensures)) (sym (c .before .before .branches .ensures) ∙ c .before .if2 .left)))
 
--- src/plan.rt:180:5
 data-at-requires : tie.Need-data-at-requires
 data-at-requires c κs = (in-words _ _ (c .before .before .before .before .before .before .before .before .before .before .before .before .before .pre .0) _ (c .before .before .before .before .before .before .before .before .before .before .before .before .before .pre .1), index-small _ _ (c .before .before .before .before .before .before .before .before .before .before .before .before .before .pre .0) _ (c .before .before .before .before .before .before .before .before .before .before .before .before .before .pre .1), computable _ _ _ _ (c .before .before .before .before .before .before .before .before .before .before .before .before .before .pre .0 .operations _ (c .before .before .before .before .before .before .before .before .before .before .before .before .before .pre .1)) _ (λ k. c .before .before .before .before .before .before .before .before .before .before .before .before .shared-slice-known .given k .fits) (of-bytes _ _ _ (λ k. c .before .before .before .before .before .before .before .before .before .before .before .shared-slice-known2 .given k .fits) (λ k. c .before .before .before .before .before .before .before .before .before .before .shared-slice-known3 .given k .fits) (λ k. c .before .before .before .before .before .before .before .before .before .shared-slice-known4 .given k .fits)) (few-operations _ _ (c .before .before .before .before .before .before .before .before .before .before .before .before .before .pre .0 .inRange)) (rw (← (c .before .before .before .before .before .before .before .before .opcode-at .ensures)) (sym (c .before .before .before .before .before .accesses .ensures) ∙ c .before .before .before .before .if1 .left)) (rw (← (c .before .before .before .before .before .before .before .before .opcode-at .ensures)) (sym (c .before .before .before .branches .ensures) ∙ c .before .before .if2 .left)) _ _ (c .read2 .ensures ∙ ap (valueAt _ _) (c .before .varnode-at2 .ensures)) (c .before .before .before .before .before .before .read .ensures ∙ ap (valueAt _ _) (c .before .before .before .before .before .before .before .varnode-at .ensures)))
 
--- src/plan.rt:158:1
 returns-3 : tie.Need-returns-3
 unfolding operationAt
 returns-3 c = plan-data _ _ _ _ _ (c .before .before .before .before .before .before .before .before .before .opcode-at .ensures) _ (c .before .before .before .before .before .before .before .before .varnode-at .ensures) _ (c .before .before .before .before .before .before .before .read .ensures) _ _ (c .before .before .before .before .before .before .accesses .ensures) (c .before .before .before .before .before .if1 .left) _ (c .before .before .before .before .branches .ensures) (c .before .before .before .if2 .left) _ (c .before .before .varnode-at2 .ensures) _ (c .before .read2 .ensures) (c .data-at .ensures)

@@ -6,7 +6,6 @@ use Rattle.plan.proofs.unwritten.Statement.{statement}
 use Rattle.plan.proofs.unwritten.Tie as tie
 use Rattle.plan.proofs.unwritten.Lts as lts
 
--- src/plan.rt:31:1
 returns : tie.Need-returns
 unfolding unwritten absent
 returns c = refl

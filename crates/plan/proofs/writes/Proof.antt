@@ -6,11 +6,9 @@ use Rattle.plan.proofs.writes.Statement.{statement}
 use Rattle.plan.proofs.writes.Tie as tie
 use Rattle.plan.proofs.writes.Lts as lts
 
--- src/plan.rt:55:15
 add-t6 : tie.Need-add-t6
 add-t6 c = search needs
 
--- src/plan.rt:49:1
 returns : tie.Need-returns
 unfolding writes
 returns c = rw add-one

@@ -5,27 +5,21 @@ use Rattle.refusal.proofs.labelled_refusal.Statement.{statement}
 use Rattle.refusal.proofs.labelled_refusal.Tie as tie
 use Rattle.refusal.proofs.labelled_refusal.Lts as lts
 
--- src/lib.rt:53:9
 lengths-of-requires : tie.Need-lengths-of-requires
 lengths-of-requires c κs = search needs
 
--- src/lib.rt:55:9
 lengths-of-requires-2 : tie.Need-lengths-of-requires-2
 lengths-of-requires-2 c κs = search needs
 
--- src/lib.rt:54:9
 same-lengths-requires : tie.Need-same-lengths-requires
 same-lengths-requires c κs = search needs
 
--- src/lib.rt:58:9
 labels-in-range-requires : tie.Need-labels-in-range-requires
 labels-in-range-requires c κs = search needs
 
--- src/lib.rt:59:5
 refusal-requires : tie.Need-refusal-requires
 refusal-requires c κs = search needs
 
--- src/lib.rt:37:1
 returns : tie.Need-returns
 returns c = c .refusal .ensures ∙ rw (c .before .before .same-lengths .ensures, c .before .labels-in-range .ensures, c .before .before .before .before .lengths-of .ensures, c .before .before .before .lengths-of2 .ensures) refl
 

@@ -5,7 +5,6 @@ use Rattle.refusal.proofs.lengths_of.Statement.{statement}
 use Rattle.refusal.proofs.lengths_of.Tie as tie
 use Rattle.refusal.proofs.lengths_of.Lts as lts
 
--- src/lib.rt:158:1
 returns : tie.Need-returns
 unfolding lengthsOf
 returns c = refl

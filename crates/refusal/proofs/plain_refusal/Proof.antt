@@ -5,15 +5,12 @@ use Rattle.refusal.proofs.plain_refusal.Statement.{statement}
 use Rattle.refusal.proofs.plain_refusal.Tie as tie
 use Rattle.refusal.proofs.plain_refusal.Lts as lts
 
--- src/lib.rt:28:9
 lengths-of-requires : tie.Need-lengths-of-requires
 lengths-of-requires c κs = search needs
 
--- src/lib.rt:26:5
 refusal-requires : tie.Need-refusal-requires
 refusal-requires c κs = search needs
 
--- src/lib.rt:16:1
 returns : tie.Need-returns
 returns c = c .refusal .ensures ∙ rw (c .before .lengths-of .ensures) refl
 

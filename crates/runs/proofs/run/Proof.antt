@@ -7,48 +7,37 @@ use Rattle.runs.proofs.run.Statement.{statement}
 use Rattle.runs.proofs.run.Tie as tie
 use Rattle.runs.proofs.run.Lts as lts
 
--- src/lib.rt:40:9
 plain-refusal-requires : tie.Need-plain-refusal-requires
 plain-refusal-requires c κs = tt
 
--- src/lib.rt:42:9
 same-length : tie.Need-same-length
 same-length c = refl
 
--- src/lib.rt:42:9
 same-length-2 : tie.Need-same-length-2
 same-length-2 c = refl
 
--- src/lib.rt:42:9
 same-length-3 : tie.Need-same-length-3
 same-length-3 c = refl
 
--- src/lib.rt:42:9
 returns : tie.Need-returns
 unfolding plainRun
 returns c = leaves-as-lent _ _ _ _ _ _ _ _ _ (c .before .before .plain-refusal .ensures) (c .if1 .taken)
 
--- src/lib.rt:44:5
 run-from-requires : tie.Need-run-from-requires
 run-from-requires c κs = let a = accepted _ _ _ _ _ _ _ (c .before .before .before .before .before .before .before .plain-refusal .ensures) (c .before .before .before .before .before .if1 .left) in (a .0, a .1, omega arith)
 
--- src/lib.rt:26:1
 same-length-4 : tie.Need-same-length-4
 same-length-4 c = c .before .before .before .before .before .before .before .before .run-from .kept .1 .1 .0
 
--- src/lib.rt:26:1
 same-length-5 : tie.Need-same-length-5
 same-length-5 c = c .before .before .before .before .before .before .before .before .run-from .kept .1 .1 .1 .0
 
--- src/lib.rt:26:1
 same-length-6 : tie.Need-same-length-6
 same-length-6 c = c .before .before .before .before .before .before .before .before .run-from .kept .1 .1 .1 .1 .0
 
--- src/lib.rt:26:1
 same-length-7 : tie.Need-same-length-7
 same-length-7 c = c .before .before .before .before .before .before .before .before .run-from .kept .1 .1 .1 .1 .1 .0
 
--- src/lib.rt:26:1
 returns-2 : tie.Need-returns-2
 unfolding plainRun
 returns-2 c = c .before .before .before .before .before .before .before .before .run-from .ensures ∙ leaves-run _ _ _ _ _ _ _ _ _ (c .before .before .before .before .before .before .before .before .before .before .before .before .before .before .before .before .plain-refusal .ensures) (c .before .before .before .before .before .before .before .before .before .before .before .before .before .before .if1 .left)

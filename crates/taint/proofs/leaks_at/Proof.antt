@@ -6,15 +6,12 @@ use Rattle.taint.proofs.leaks_at.Statement.{statement}
 use Rattle.taint.proofs.leaks_at.Tie as tie
 use Rattle.taint.proofs.leaks_at.Lts as lts
 
--- src/taint.rt:27:39
 guarded-at-requires : tie.Need-guarded-at-requires
 guarded-at-requires c κs = in-words _ _ (c .before .before .before .before .pre .0) _ (c .before .before .before .before .pre .1)
 
--- src/taint.rt:27:5
 has-secret-requires : tie.Need-has-secret-requires
 has-secret-requires c κs = rw (c .guarded-at .ensures) (guarded-placed _ _ (c .before .before .before .before .before .pre .0) _ (c .before .before .before .before .before .pre .1))
 
--- src/taint.rt:23:1
 returns : tie.Need-returns
 returns c = c .has-secret .ensures ∙ rw (c .before .guarded-at .ensures) (sym (leaks-guarded _ _))
 

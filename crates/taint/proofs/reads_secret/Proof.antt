@@ -9,70 +9,54 @@ use Rattle.taint.proofs.reads_secret.Statement.{statement}
 use Rattle.taint.proofs.reads_secret.Tie as tie
 use Rattle.taint.proofs.reads_secret.Lts as lts
 
--- src/taint.rt:86:9
 opcode-at-requires : tie.Need-opcode-at-requires
 opcode-at-requires c κs = let h = in-words _ _ (c .before .before .before .before .pre .valid) _ (c .before .before .before .before .pre .index) in omega arith
 
--- src/taint.rt:87:8
 branches-requires : tie.Need-branches-requires
 branches-requires c κs = search needs
 
--- src/taint.rt:88:9
 returns : tie.Need-returns
 unfolding operationAt
 returns c = reads-no-branch _ _ _ _ (c .before .before .opcode-at .ensures) _ (c .before .branches .ensures) _ (c .if1 .taken) refl
 
--- src/taint.rt:91:50
 varnode-at-requires : tie.Need-varnode-at-requires
 varnode-at-requires c κs = (in-words _ _ (c .before .before .before .before .before .before .before .before .pre .valid) _ (c .before .before .before .before .before .before .before .before .pre .index), omega arith)
 
--- src/taint.rt:91:9
 has-secret-requires : tie.Need-has-secret-requires
 has-secret-requires c κs = rw (c .varnode-at .ensures) (place _ _ (c .before .before .before .before .before .before .before .before .before .pre .valid) _ (c .before .before .before .before .before .before .before .before .before .pre .index) 3 (omega arith) (λ z. absurd (omega arith)))
 
--- src/taint.rt:91:9
 returns-2 : tie.Need-returns-2
 unfolding operationAt
 returns-2 c = reads-stored _ _ _ _ (c .before .before .before .before .before .opcode-at .ensures) _ (c .before .before .before .before .branches .ensures) _ (c .before .before .before .if1 .left) (c .before .before .if2 .taken) _ (c .before .varnode-at .ensures) (c .has-secret .ensures)
 
--- src/taint.rt:94:13
 varnode-at-requires-2 : tie.Need-varnode-at-requires-2
 varnode-at-requires-2 c κs = (in-words _ _ (c .before .before .before .before .before .before .before .before .before .pre .valid) _ (c .before .before .before .before .before .before .before .before .before .pre .index), omega arith)
 
--- src/taint.rt:95:50
 there-requires : tie.Need-there-requires
 there-requires c κs = in-words _ _ (c .before .before .before .before .before .before .before .before .before .before .pre .valid) _ (c .before .before .before .before .before .before .before .before .before .before .pre .index)
 
--- src/taint.rt:95:9
 has-secret-requires-2 : tie.Need-has-secret-requires-2
 has-secret-requires-2 c κs = rw (c .there .ensures, c .before .varnode-at2 .ensures) (c .before .before .before .before .before .before .before .before .before .before .before .pre .loaded (sym (c .before .before .before .before .before .before .opcode-at .ensures) ∙ c .before .before .if3 .taken))
 
--- src/taint.rt:95:9
 returns-3 : tie.Need-returns-3
 unfolding operationAt
 returns-3 c = reads-loaded _ _ _ _ (c .before .before .before .before .before .before .before .opcode-at .ensures) _ (c .before .before .before .before .before .before .branches .ensures) _ (c .before .before .before .before .before .if1 .left) (c .before .before .before .before .if2 .left) (c .before .before .before .if3 .taken) _ _ (c .before .before .varnode-at2 .ensures) (c .before .there .ensures) (c .has-secret2 .ensures)
 
--- src/taint.rt:97:51
 varnode-at-requires-3 : tie.Need-varnode-at-requires-3
 varnode-at-requires-3 c κs = (in-words _ _ (c .before .before .before .before .before .before .before .before .before .pre .valid) _ (c .before .before .before .before .before .before .before .before .before .pre .index), omega arith)
 
--- src/taint.rt:97:9
 has-secret-requires-3 : tie.Need-has-secret-requires-3
 has-secret-requires-3 c κs = rw (c .varnode-at3 .ensures) (place _ _ (c .before .before .before .before .before .before .before .before .before .before .pre .valid) _ (c .before .before .before .before .before .before .before .before .before .before .pre .index) 1 (omega arith) (λ z. rw (← (c .before .before .before .before .before .opcode-at .ensures)) (sym (c .before .before .before .before .branches .ensures) ∙ c .before .before .before .if1 .left)))
 
--- src/taint.rt:100:43
 varnode-at-requires-4 : tie.Need-varnode-at-requires-4
 varnode-at-requires-4 c κs = (in-words _ _ (c .before .before .before .before .before .before .before .before .before .before .before .pre .valid) _ (c .before .before .before .before .before .before .before .before .before .before .before .pre .index), omega arith)
 
--- src/taint.rt:100:9
 has-secret-requires-4 : tie.Need-has-secret-requires-4
 has-secret-requires-4 c κs = rw (c .varnode-at4 .ensures) (place _ _ (c .before .before .before .before .before .before .before .before .before .before .before .before .pre .valid) _ (c .before .before .before .before .before .before .before .before .before .before .before .before .pre .index) 2 (omega arith) (λ z. absurd (omega arith)))
 
--- src/taint.rt:98:5
 either-requires : tie.Need-either-requires
 either-requires c κs = search needs
 
--- src/taint.rt:75:1
 returns-4 : tie.Need-returns-4
 unfolding operationAt
 returns-4 c = reads-inputs _ _ _ _ (c .before .before .before .before .before .before .before .before .before .opcode-at .ensures) _ (c .before .before .before .before .before .before .before .before .branches .ensures) _ (c .before .before .before .before .before .before .before .if1 .left) (c .before .before .before .before .before .before .if2 .left) (c .before .before .before .before .before .if3 .left) _ _ (c .before .before .before .before .varnode-at3 .ensures) (c .before .before .varnode-at4 .ensures) _ _ (c .before .before .before .has-secret3 .ensures) (c .before .has-secret4 .ensures) (c .either .ensures)

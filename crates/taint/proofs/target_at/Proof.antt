@@ -6,28 +6,22 @@ use Rattle.taint.proofs.target_at.Statement.{statement}
 use Rattle.taint.proofs.target_at.Tie as tie
 use Rattle.taint.proofs.target_at.Lts as lts
 
--- src/taint.rt:67:8
 opcode-at-requires : tie.Need-opcode-at-requires
 opcode-at-requires c κs = search needs
 
--- src/taint.rt:68:13
 varnode-at-requires : tie.Need-varnode-at-requires
 varnode-at-requires c κs = search needs
 
--- src/taint.rt:69:9
 there-requires : tie.Need-there-requires
 there-requires c κs = search needs
 
--- src/taint.rt:69:9
 returns : tie.Need-returns
 unfolding operationAt
 returns c = stores-there _ _ _ (c .before .before .before .opcode-at .ensures) _ (c .before .before .if1 .taken) _ (c .before .varnode-at .ensures) (c .there .ensures)
 
--- src/taint.rt:71:5
 varnode-at-requires-2 : tie.Need-varnode-at-requires-2
 varnode-at-requires-2 c κs = search needs
 
--- src/taint.rt:63:1
 returns-2 : tie.Need-returns-2
 unfolding operationAt
 returns-2 c = writes-output _ _ _ (c .before .before .opcode-at .ensures) _ (c .before .if1 .left) (c .varnode-at2 .ensures)

@@ -7,11 +7,9 @@ use Rattle.taint.proofs.there.Statement.{statement}
 use Rattle.taint.proofs.there.Tie as tie
 use Rattle.taint.proofs.there.Lts as lts
 
--- src/taint.rt:54:9
 varnode-at-requires : tie.Need-varnode-at-requires
 varnode-at-requires c κs = search needs
 
--- src/taint.rt:50:1
 returns : tie.Need-returns
 unfolding operationAt bytesThere
 returns c = rw (c .varnode-at .ensures) refl

@@ -6,19 +6,15 @@ use Rattle.memory.proofs.varnode.read.Statement.{statement}
 use Rattle.memory.proofs.varnode.read.Tie as tie
 use Rattle.memory.proofs.varnode.read.Lts as lts
 
--- src/varnode.rt:17:9
 returns : tie.Need-returns
 returns c = sym (value-elsewhere _ _ (λ e. omega arith) (λ e. omega arith) (λ e. omega arith) (c .before .before .before .before .before .pre) _)
 
--- src/varnode.rt:19:9
 space-of-requires : tie.Need-space-of-requires
 space-of-requires c κs = (c .if1 .left, c .before .before .before .before .before .pre .known)
 
--- src/varnode.rt:22:5
 gather-requires : tie.Need-gather-requires
 gather-requires c κs = (c .before .before .before .before .before .before .pre .size, rw (c .space-of .ensures) (c .before .before .before .before .before .before .pre .within (c .before .if1 .left)))
 
--- src/varnode.rt:12:1
 returns-2 : tie.Need-returns-2
 returns-2 c = c .gather .ensures ∙ rw (c .before .space-of .ensures) (sym (value-in _ _ _ refl (c .before .before .if1 .left) _))
 

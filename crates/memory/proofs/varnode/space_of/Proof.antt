@@ -6,17 +6,14 @@ use Rattle.memory.proofs.varnode.space_of.Statement.{statement}
 use Rattle.memory.proofs.varnode.space_of.Tie as tie
 use Rattle.memory.proofs.varnode.space_of.Lts as lts
 
--- src/varnode.rt:26:1
 returns : tie.Need-returns
 unfolding spaceOf
 returns c = rw (c .match .keys1) refl
 
--- src/varnode.rt:26:1
 returns-2 : tie.Need-returns-2
 unfolding spaceOf
 returns-2 c = rw (c .match .keys2) refl
 
--- src/varnode.rt:26:1
 returns-3 : tie.Need-returns-3
 unfolding spaceOf
 returns-3 c = let p = c .before .pre in let a = c .match .rest .0 .1 in let b = c .match .rest .1 in let e : c .before .args .space ≡ 4 = omega arith in rw e refl

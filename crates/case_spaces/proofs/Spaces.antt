@@ -1,0 +1,50 @@
+-- The spaces of a case, copied: their lengths, and the run of them.
+use Prim.Native.Nat.{ℕ, _*_, _≤_}
+use mathlib.Core.Path.{_≡_, sym, ap, subst}
+use mathlib.Core.List.{List}
+use native.Mathlib.Omega.{arith}
+use lib.ListN.{length, take, replicate}
+use lib.Seq.{length-take-le}
+use Rattle.operation.specs.declared.layout.Lengths.{Lengths}
+use Rattle.operation.specs.Layout.{wordsPerOperation}
+use Rattle.machine.specs.Memory.{Memory, spaces, lengthsOf}
+use Rattle.machine.specs.Calls.{labelledRun}
+use Rattle.case_line.specs.Case.{mostBytes}
+use Rattle.case_line.specs.Buffers.{Fits, memoryIn, caseIn}
+use Rattle.case_line.specs.declared.Header.{Header}
+use Rattle.outcome_text.specs.Outcome.{logRoom}
+use Rattle.case_run.specs.Run.{startIndex, outcome}
+use Rattle.outcome_text.specs.Room.{Small}
+
+-- spaces that have the lengths of a case are small
+pub small : (m : Memory) (l : Lengths) → lengthsOf m ≡ l → Fits l → Small m
+unfolding lengthsOf
+small m l e f =
+    record {
+      unique = subst (λ (k : ℕ). k ≤ mostBytes) (sym (ap (λ (x : Lengths). x .unique) e)) (f .unique);
+      register = subst (λ (k : ℕ). k ≤ mostBytes) (sym (ap (λ (x : Lengths). x .register) e)) (f .register);
+      ram = subst (λ (k : ℕ). k ≤ mostBytes) (sym (ap (λ (x : Lengths). x .ram) e)) (f .ram);
+    }
+
+pub fits-as : (m : Memory) (l : Lengths) → lengthsOf m ≡ l → Fits l → Fits (lengthsOf m)
+fits-as m l e f = subst Fits (sym e) f
+
+-- the run of what the buffers hold
+pub case-run : (h : Header) (m ls ws : List ℕ) {x y : Memory} {p q : Lengths} → x ≡ memoryIn p m → p ≡ h .lengths → y ≡ memoryIn q ls → q ≡ h .lengths
+    → labelledRun (h .settings) (take (wordsPerOperation * h .operations) ws) startIndex (h .budget) (replicate logRoom 0) y x ≡ outcome (caseIn h m ls ws)
+unfolding outcome caseIn
+case-run h m ls ws a b c d = rw (a, b, c, d)
+
+pub kept-small : {u g m u′ g′ m′ : List ℕ} → Small (spaces u g m) → length u′ ≡ length u → length g′ ≡ length g → length m′ ≡ length m → Small (spaces u′ g′ m′)
+kept-small s a b c = record { unique = omega (arith, a, s .unique); register = omega (arith, b, s .register); ram = omega (arith, c, s .ram) }
+
+-- room for each space
+pub front-lengths : (l : Lengths) → Fits l → (a b c : List ℕ) → mostBytes ≡ length a → mostBytes ≡ length b → mostBytes ≡ length c
+    → lengthsOf (spaces (take (l .unique) a) (take (l .register) b) (take (l .ram) c)) ≡ l
+unfolding lengthsOf
+front-lengths l f a b c p q r =
+    rw (
+      length-take-le (l .unique) a (omega (arith, p, f .unique)),
+      length-take-le (l .register) b (omega (arith, q, f .register)),
+      length-take-le (l .ram) c (omega (arith, r, f .ram)),
+    )
