@@ -19,7 +19,7 @@ use Rattle.frame.specs.Frames.{frameOf, bytesOn, wordsOn}
 use Rattle.frame.specs.declared.Frame.{Frame}
 use Rattle.frame.specs.declared.Frame.the-variants.{Opening, Bytes, Operation}
 use Rattle.frame.proofs.Laws.{BytesLine, frame-line}
-use Rattle.case_line.specs.Case.{mostOperations, mostBytes, Case, Progress, lengthsFit, opening, opened, inSpace, withMemory, withLabels, withOperation, stored, continued, afterLine}
+use Rattle.case_line.specs.Case.{mostCaseOperations, mostCaseBytes, Case, Progress, lengthsFit, opening, opened, inSpace, withMemory, withLabels, withOperation, stored, continued, afterLine}
 use Rattle.case_line.specs.Buffers.{memoryIn, caseIn, progressIn, Fits, Sound, Fed}
 use Rattle.case_line.specs.declared.Header.{Header}
 use Rattle.case_line.specs.declared.Stage.{Stage}
@@ -46,8 +46,8 @@ still-bad n k s m ls ws h = record { sound = h; same = refl }
 lengths-fit : (l : Lengths) → lengthsFit l ≡ true → Fits l
 unfolding lengthsFit
 lengths-fit l e =
-    let p = both (leb (l .unique) mostBytes && leb (l .register) mostBytes) (leb (l .ram) mostBytes) e in
-    let q = both (leb (l .unique) mostBytes) (leb (l .register) mostBytes) (p .0) in
+    let p = both (leb (l .unique) mostCaseBytes && leb (l .register) mostCaseBytes) (leb (l .ram) mostCaseBytes) e in
+    let q = both (leb (l .unique) mostCaseBytes) (leb (l .register) mostCaseBytes) (p .0) in
     record { unique = leb-true _ _ (q .0); register = leb-true _ _ (q .1); ram = leb-true _ _ (p .1) }
 
 module _ (n : ℕ) (s : List ℕ) {f : Frame} (e : f ≡ frameOf s) (m ls ws : List ℕ) (h : Sound Nothing m ls ws) where
@@ -77,7 +77,7 @@ module _ (n : ℕ) (s : List ℕ) {f : Frame} (e : f ≡ frameOf s) (m ls ws : L
 pub record Inside (space offset count : ℕ) : Type 0 where
   pub low : 2 ≤ space
   pub high : space ≤ 4
-  pub most : offset + count ≤ mostBytes
+  pub most : offset + count ≤ mostCaseBytes
 
 known : (l : Lengths) → Fits l → (space offset count : ℕ) → 1 ≤ count → offset + count ≤ lengthOf l space → Inside space offset count
 unfolding lengthOf
@@ -91,7 +91,7 @@ known l fits space offset count some h = by (eqb space 2) (eqb space 3) (eqb spa
     by false false false e2 e3 e4 k = absurd (let z : ⊥ = omega arith in z)
 
 -- and so they have room in the buffer
-pub in-buffer : {space offset count place room : ℕ} → Inside space offset count → place ≡ (space - 2) * mostBytes + offset → room ≡ 3 * mostBytes → place + count ≤ room
+pub in-buffer : {space offset count place room : ℕ} → Inside space offset count → place ≡ (space - 2) * mostCaseBytes + offset → room ≡ 3 * mostCaseBytes → place + count ≤ room
 in-buffer i p r = omega (arith, i .low, i .high, i .most, p, r)
 
 -- offset + count within an extent, tested without a sum
@@ -125,7 +125,7 @@ module _ (n : ℕ) (s : List ℕ) {f : Frame} (e : f ≡ frameOf s) (d : Header)
     pub bytes-line : BytesLine count s
     bytes-line = rw (sym e ∙ k) at (frame-line s)
 
-    extent : (b : List ℕ) → length b ≡ 3 * mostBytes → inSpace (memoryIn (d .lengths) b) space offset count ≡ leb (offset + count) (lengthOf (d .lengths) space)
+    extent : (b : List ℕ) → length b ≡ 3 * mostCaseBytes → inSpace (memoryIn (d .lengths) b) space offset count ≡ leb (offset + count) (lengthOf (d .lengths) space)
     unfolding inSpace
     extent b r = ap (leb (offset + count)) (space-length (d .lengths) (h .stageFits .lengths) b r space)
 
@@ -152,15 +152,15 @@ module _ (n : ℕ) (s : List ℕ) {f : Frame} (e : f ≡ frameOf s) (d : Header)
       fits-in : offset + length (bytesOn count s) ≤ lengthOf (d .lengths) space
       fits-in = rw bytes-count within
 
-      storing : (b : List ℕ) → length b ≡ 3 * mostBytes → memoryIn (d .lengths) (sets b ((space - 2) * mostBytes + offset) (bytesOn count s))
+      storing : (b : List ℕ) → length b ≡ 3 * mostCaseBytes → memoryIn (d .lengths) (sets b ((space - 2) * mostCaseBytes + offset) (bytesOn count s))
           ≡ stored (memoryIn (d .lengths) b) space offset (bytesOn count s)
       storing b r = memory-stored (d .lengths) (h .stageFits .lengths) b r space offset (bytesOn count s) (inside .low) (inside .high) fits-in
 
-      pub fed-memory : of-labels ≡ false → {place : ℕ} → place ≡ (space - 2) * mostBytes + offset → {m′ : List ℕ} → m′ ≡ sets m place (bytesOn count s)
+      pub fed-memory : of-labels ≡ false → {place : ℕ} → place ≡ (space - 2) * mostCaseBytes + offset → {m′ : List ℕ} → m′ ≡ sets m place (bytesOn count s)
           → Fed n s (Reading d) m ls ws (Reading d) m′ ls ws
       unfolding continued caseIn withMemory
       fed-memory o {place} p {m′} q =
-          let r : m′ ≡ sets m ((space - 2) * mostBytes + offset) (bytesOn count s) = q ∙ ap (λ x. sets m x (bytesOn count s)) p in
+          let r : m′ ≡ sets m ((space - 2) * mostCaseBytes + offset) (bytesOn count s) = q ∙ ap (λ x. sets m x (bytesOn count s)) p in
           fed-good (withMemory (caseIn d m ls ws) (stored (memoryIn (d .lengths) m) space offset (bytesOn count s))) d m′ ls ws
           (rw (k, o, extent m (h .memoryRoom), g))
           (rw (r, storing m (h .memoryRoom)))
@@ -171,11 +171,11 @@ module _ (n : ℕ) (s : List ℕ) {f : Frame} (e : f ≡ frameOf s) (d : Header)
             stageFits = h .stageFits;
           })
 
-      pub fed-labels : of-labels ≡ true → {place : ℕ} → place ≡ (space - 2) * mostBytes + offset → {ls′ : List ℕ} → ls′ ≡ sets ls place (bytesOn count s)
+      pub fed-labels : of-labels ≡ true → {place : ℕ} → place ≡ (space - 2) * mostCaseBytes + offset → {ls′ : List ℕ} → ls′ ≡ sets ls place (bytesOn count s)
           → Fed n s (Reading d) m ls ws (Reading d) m ls′ ws
       unfolding continued caseIn withLabels
       fed-labels o {place} p {ls′} q =
-          let r : ls′ ≡ sets ls ((space - 2) * mostBytes + offset) (bytesOn count s) = q ∙ ap (λ x. sets ls x (bytesOn count s)) p in
+          let r : ls′ ≡ sets ls ((space - 2) * mostCaseBytes + offset) (bytesOn count s) = q ∙ ap (λ x. sets ls x (bytesOn count s)) p in
           fed-good (withLabels (caseIn d m ls ws) (stored (memoryIn (d .lengths) ls) space offset (bytesOn count s))) d m ls′ ws
           (rw (k, o, extent ls (h .labelRoom), g))
           (rw (r, storing ls (h .labelRoom)))
@@ -196,18 +196,18 @@ module _ (n : ℕ) (s : List ℕ) {f : Frame} (e : f ≡ frameOf s) (d : Header)
     counted =
         rw (length-take-le (wordsPerOperation * d .operations) ws (omega (arith, h .wordRoom, h .stageFits .operations))) (omega arith)
 
-    pub fed-full : d .operations ≡ mostOperations → Fed n s (Reading d) m ls ws (BadLine n) m ls ws
+    pub fed-full : d .operations ≡ mostCaseOperations → Fed n s (Reading d) m ls ws (BadLine n) m ls ws
     unfolding continued caseIn
-    fed-full g = fed-bad (rw (k, counted, le-ltb (d .operations) mostOperations (omega (arith, g))))
+    fed-full g = fed-bad (rw (k, counted, le-ltb (d .operations) mostCaseOperations (omega (arith, g))))
 
-    pub fed-operation : (d .operations ≡ mostOperations → ⊥) → {ws′ : List ℕ} → ws′ ≡ sets ws (wordsPerOperation * d .operations) (wordsOn s)
+    pub fed-operation : (d .operations ≡ mostCaseOperations → ⊥) → {ws′ : List ℕ} → ws′ ≡ sets ws (wordsPerOperation * d .operations) (wordsOn s)
         → Fed n s (Reading d) m ls ws
         (Reading (record { settings = d .settings; lengths = d .lengths; budget = d .budget; operations = d .operations + 1 })) m ls ws′
     unfolding continued caseIn withOperation
     fed-operation g {ws′} q =
-        let few : d .operations < mostOperations = omega (arith, g, h .stageFits .operations) in
+        let few : d .operations < mostCaseOperations = omega (arith, g, h .stageFits .operations) in
         fed-good (withOperation (caseIn d m ls ws) (wordsOn s)) _ m ls ws′
-        (rw (k, counted, lt-ltb (d .operations) mostOperations few))
+        (rw (k, counted, lt-ltb (d .operations) mostCaseOperations few))
         (rw (added (d .operations) s ws ws′ q (omega (arith, h .wordRoom, few))))
         (record {
           memoryRoom = h .memoryRoom;

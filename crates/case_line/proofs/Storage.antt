@@ -11,7 +11,7 @@ use lib.Seq.{sets, take-set-le, take-set-lt, drop-set-lt, drop-set-add, length-t
 use Rattle.operation.specs.declared.layout.Lengths.{Lengths}
 use Rattle.operation.specs.Rules.{lengthOf}
 use Rattle.machine.specs.Memory.{Memory, spaces, spaceOf, withSpace}
-use Rattle.case_line.specs.Case.{mostBytes, zeros, stored}
+use Rattle.case_line.specs.Case.{mostCaseBytes, zeros, stored}
 use Rattle.case_line.specs.Buffers.{memoryIn, Zeros, Fits}
 
 -- ---- stores and parts of a list
@@ -119,19 +119,19 @@ module _ (room : ℕ) (l : Lengths) (u : l .unique ≤ room) (g : l .register �
 
 -- ---- with room for the largest space
 
-module _ (l : Lengths) (fits : Fits l) (b : List ℕ) (whole : length b ≡ 3 * mostBytes) where
+module _ (l : Lengths) (fits : Fits l) (b : List ℕ) (whole : length b ≡ 3 * mostCaseBytes) where
   pub memory-zeros : Zeros b → memoryIn l b ≡ zeros l
   unfolding memoryIn
-  memory-zeros z = zeros-by mostBytes l (fits .unique) (fits .register) (fits .ram) b whole z
+  memory-zeros z = zeros-by mostCaseBytes l (fits .unique) (fits .register) (fits .ram) b whole z
 
   pub space-length : (space : ℕ) → length (spaceOf (memoryIn l b) space) ≡ lengthOf l space
   unfolding memoryIn
-  space-length space = length-by mostBytes l (fits .unique) (fits .register) (fits .ram) b whole space
+  space-length space = length-by mostCaseBytes l (fits .unique) (fits .register) (fits .ram) b whole space
 
   pub memory-stored : (space offset : ℕ) (bs : List ℕ) → 2 ≤ space → space ≤ 4 → offset + length bs ≤ lengthOf l space
-      → memoryIn l (sets b ((space - 2) * mostBytes + offset) bs) ≡ stored (memoryIn l b) space offset bs
+      → memoryIn l (sets b ((space - 2) * mostCaseBytes + offset) bs) ≡ stored (memoryIn l b) space offset bs
   unfolding memoryIn
-  memory-stored space offset bs low high h = stored-by mostBytes l (fits .unique) (fits .register) (fits .ram) b whole space offset bs low high h
+  memory-stored space offset bs low high h = stored-by mostCaseBytes l (fits .unique) (fits .register) (fits .ram) b whole space offset bs low high h
 
 -- a new buffer
 pub new-zeros : (n : ℕ) → Zeros (replicate n 0)

@@ -6,7 +6,7 @@ use lib.ListN.{length, take, drop, getD}
 use Rattle.operation.specs.declared.layout.Lengths.{Lengths}
 use Rattle.operation.specs.Layout.{wordsPerOperation}
 use Rattle.machine.specs.Memory.{Memory, spaces}
-use Rattle.case_line.specs.Case.{mostOperations, mostBytes, Case, Progress, afterLine}
+use Rattle.case_line.specs.Case.{mostCaseOperations, mostCaseBytes, Case, Progress, afterLine}
 use Rattle.case_line.specs.declared.Header.{Header}
 use Rattle.case_line.specs.declared.Stage.{Stage}
 use Rattle.case_line.specs.declared.Stage.the-variants.{Nothing, Reading, BadLine}
@@ -14,7 +14,7 @@ use Rattle.case_line.specs.declared.Stage.the-variants.{Nothing, Reading
 -- The memory that a buffer holds.
 unfoldable pub memoryIn : Lengths → (buffer : List ℕ) → Memory
 memoryIn l buffer =
-    spaces (take (l .unique) buffer) (take (l .register) (drop mostBytes buffer)) (take (l .ram) (drop (2 * mostBytes) buffer))
+    spaces (take (l .unique) buffer) (take (l .register) (drop mostCaseBytes buffer)) (take (l .ram) (drop (2 * mostCaseBytes) buffer))
 
 unfoldable pub caseIn : Header → (memory labels words : List ℕ) → Case
 caseIn h m ls ws =
@@ -38,13 +38,13 @@ abbrev pub Zeros : List ℕ → Type 0
 Zeros l = (i : ℕ) → getD l i 0 ≡ 0
 
 pub record Fits (l : Lengths) : Type 0 where
-  pub unique : l .unique ≤ mostBytes
-  pub register : l .register ≤ mostBytes
-  pub ram : l .ram ≤ mostBytes
+  pub unique : l .unique ≤ mostCaseBytes
+  pub register : l .register ≤ mostCaseBytes
+  pub ram : l .ram ≤ mostCaseBytes
 
 pub record HeaderFits (h : Header) : Type 0 where
   pub lengths : Fits (h .lengths)
-  pub operations : h .operations ≤ mostOperations
+  pub operations : h .operations ≤ mostCaseOperations
 
 -- Before the first line memory and labels are zeros.
 abbrev pub StageFits : Stage → (memory labels : List ℕ) → Type 0
@@ -53,9 +53,9 @@ StageFits (Reading h) m ls = HeaderFits h
 StageFits (BadLine n) m ls = Unit
 
 pub record Sound (stage : Stage) (memory labels words : List ℕ) : Type 0 where
-  pub memoryRoom : length memory ≡ 3 * mostBytes
-  pub labelRoom : length labels ≡ 3 * mostBytes
-  pub wordRoom : length words ≡ wordsPerOperation * mostOperations
+  pub memoryRoom : length memory ≡ 3 * mostCaseBytes
+  pub labelRoom : length labels ≡ 3 * mostCaseBytes
+  pub wordRoom : length words ≡ wordsPerOperation * mostCaseOperations
   pub stageFits : StageFits stage memory labels
 
 -- A line takes the buffers to what the definition says.

@@ -13,12 +13,12 @@ use Rattle.frame.specs.Frames.{frameOf, bytesOn, wordsOn}
 use Rattle.frame.specs.declared.Frame.{Frame}
 use Rattle.frame.specs.declared.Frame.the-variants.{Opening, Bytes, Operation, Bad}
 
--- At most 512 operations and 4,096 bytes a space.
-abbrev pub mostOperations : ℕ
-mostOperations = 512
+-- At most 512 operations and 4,096 bytes a space: less than a run takes.
+abbrev pub mostCaseOperations : ℕ
+mostCaseOperations = 512
 
-abbrev pub mostBytes : ℕ
-mostBytes = 4096
+abbrev pub mostCaseBytes : ℕ
+mostCaseBytes = 4096
 
 -- What a labelled run is to be given.
 pub record Case : Type 0 where
@@ -38,7 +38,7 @@ pub data Progress : Type 0 where
 
 -- Each space has at most 4,096 bytes.
 unfoldable pub lengthsFit : Lengths → Bool
-lengthsFit l = leb (l .unique) mostBytes && leb (l .register) mostBytes && leb (l .ram) mostBytes
+lengthsFit l = leb (l .unique) mostCaseBytes && leb (l .register) mostCaseBytes && leb (l .ram) mostCaseBytes
 
 -- Memory starts as zeros and public; a public byte has the label 0.
 unfoldable pub zeros : Lengths → Memory
@@ -86,7 +86,7 @@ continued n s (Bytes true space offset count) c =
     (reading (withLabels c (stored (c .labels) space offset (bytesOn count s))))
     (badLine n)
 continued n s Operation c =
-    cond (ltb (operationCount (c .list)) mostOperations)
+    cond (ltb (operationCount (c .list)) mostCaseOperations)
     (reading (withOperation c (wordsOn s)))
     (badLine n)
 continued n s Bad c = badLine n

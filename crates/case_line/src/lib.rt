@@ -4,7 +4,7 @@ ghost use mathlib.Core.List.{List};
 ghost use Prim.Native.Nat.{ℕ, _+_, _*_, _-_, _≤_};
 ghost use lib.Dec.{leb};
 ghost use Rattle.operation.specs.Rules.{lengthOf};
-ghost use Rattle.case_line.specs.Case.{mostBytes, lengthsFit};
+ghost use Rattle.case_line.specs.Case.{mostCaseBytes, lengthsFit};
 ghost use Rattle.case_line.specs.Buffers.{Sound, Fed};
 use frame::Frame;
 use frame::frame_of;
@@ -15,9 +15,9 @@ use operation::layout::Settings;
 use operation::layout::WORDS_PER_OPERATION;
 use operation::rules::length_of;
 
-pub const MOST_OPERATIONS: usize = 512;
+const MOST_OPERATIONS: usize = 512;
 
-pub const MOST_BYTES: u64 = 4096;
+const MOST_BYTES: u64 = 4096;
 
 // What the lines of a case say beside its bytes, labels and words.
 pub struct Header {
@@ -164,8 +164,8 @@ fn in_space(lengths: Lengths, space: u64, offset: u64, count: usize) -> bool
 
 // Where an offset of a space lies in the buffer of three spaces.
 fn place_of(space: u64, offset: u64) -> usize
-    requires { ⌜ (2 ≤ space) × (space ≤ 4) × (offset ≤ mostBytes) ⌝ }
-    ensures { λ r. ⌜ r ≡ (space - 2) * mostBytes + offset ⌝ }
+    requires { ⌜ (2 ≤ space) × (space ≤ 4) × (offset ≤ mostCaseBytes) ⌝ }
+    ensures { λ r. ⌜ r ≡ (space - 2) * mostCaseBytes + offset ⌝ }
 {
     ((space - 2) * MOST_BYTES + offset) as usize
 }

@@ -4,7 +4,7 @@ use mathlib.Core.Path.{_≡_}
 use mathlib.Core.List.{List, [], _++_}
 use lib.ListN.{length, take}
 use Rattle.operation.specs.Layout.{wordsPerOperation}
-use Rattle.case_line.specs.Case.{mostOperations, mostBytes}
+use Rattle.case_line.specs.Case.{mostCaseOperations, mostCaseBytes}
 use Rattle.case_line.specs.Buffers.{progressIn, Zeros, Sound}
 use Rattle.case_reader.specs.Text.{linesOf, restOf, noLine, linesRead}
 use Rattle.case_reader.specs.declared.stream.Reader.{Reader}
@@ -21,9 +21,9 @@ pub record ReaderFits (r : Reader) (line memory labels words : List ℕ) : Type 
 -- The buffers as a reader first gets them: memory starts as zeros and public.
 pub record Lent (line memory labels words : List ℕ) : Type 0 where
   pub lineLength : length line ≡ lineRoom
-  pub memoryLength : length memory ≡ 3 * mostBytes
-  pub labelLength : length labels ≡ 3 * mostBytes
-  pub wordLength : length words ≡ wordsPerOperation * mostOperations
+  pub memoryLength : length memory ≡ 3 * mostCaseBytes
+  pub labelLength : length labels ≡ 3 * mostCaseBytes
+  pub wordLength : length words ≡ wordsPerOperation * mostCaseOperations
   pub memoryZeros : Zeros memory
   pub labelZeros : Zeros labels
 

@@ -3,7 +3,7 @@ ghost use mathlib.Core.Path.{_≡_};
 ghost use Prim.Native.Nat.{_*_};
 ghost use lib.ListN.{length};
 ghost use Rattle.operation.specs.Layout.{wordsPerOperation};
-ghost use Rattle.case_line.specs.Case.{mostOperations, mostBytes};
+ghost use Rattle.case_line.specs.Case.{mostCaseOperations, mostCaseBytes};
 ghost use Rattle.case_line.specs.Buffers.{Zeros};
 ghost use Rattle.case_reader.specs.Stream.{lineRoom};
 
@@ -24,13 +24,13 @@ pub fn line() -> [u8; LINE_ROOM]
 
 // For memory, or for its labels.
 pub fn spaces() -> [u8; MEMORY_ROOM]
-    ensures { λ r. ⌜ (length r ≡ 3 * mostBytes) × Zeros r ⌝ }
+    ensures { λ r. ⌜ (length r ≡ 3 * mostCaseBytes) × Zeros r ⌝ }
 {
     [0; MEMORY_ROOM]
 }
 
 pub fn words() -> [u64; WORD_ROOM]
-    ensures { λ r. ⌜ length r ≡ wordsPerOperation * mostOperations ⌝ }
+    ensures { λ r. ⌜ length r ≡ wordsPerOperation * mostCaseOperations ⌝ }
 {
     [0; WORD_ROOM]
 }

@@ -9,7 +9,7 @@ use Rattle.operation.specs.declared.layout.Lengths.{Lengths}
 use Rattle.operation.specs.Layout.{wordsPerOperation}
 use Rattle.machine.specs.Memory.{Memory, spaces, lengthsOf}
 use Rattle.machine.specs.Calls.{labelledRun}
-use Rattle.case_line.specs.Case.{mostBytes}
+use Rattle.case_line.specs.Case.{mostCaseBytes}
 use Rattle.case_line.specs.Buffers.{Fits, memoryIn, caseIn}
 use Rattle.case_line.specs.declared.Header.{Header}
 use Rattle.outcome_text.specs.Outcome.{logRoom}
@@ -21,9 +21,9 @@ pub small : (m : Memory) (l : Lengths) → lengthsOf m ≡ l → Fits l → Smal
 unfolding lengthsOf
 small m l e f =
     record {
-      unique = subst (λ (k : ℕ). k ≤ mostBytes) (sym (ap (λ (x : Lengths). x .unique) e)) (f .unique);
-      register = subst (λ (k : ℕ). k ≤ mostBytes) (sym (ap (λ (x : Lengths). x .register) e)) (f .register);
-      ram = subst (λ (k : ℕ). k ≤ mostBytes) (sym (ap (λ (x : Lengths). x .ram) e)) (f .ram);
+      unique = subst (λ (k : ℕ). k ≤ mostCaseBytes) (sym (ap (λ (x : Lengths). x .unique) e)) (f .unique);
+      register = subst (λ (k : ℕ). k ≤ mostCaseBytes) (sym (ap (λ (x : Lengths). x .register) e)) (f .register);
+      ram = subst (λ (k : ℕ). k ≤ mostCaseBytes) (sym (ap (λ (x : Lengths). x .ram) e)) (f .ram);
     }
 
 pub fits-as : (m : Memory) (l : Lengths) → lengthsOf m ≡ l → Fits l → Fits (lengthsOf m)
@@ -39,7 +39,7 @@ pub kept-small : {u g m u′ g′ m′ : List ℕ} → Small (spaces u g m) → 
 kept-small s a b c = record { unique = omega (arith, a, s .unique); register = omega (arith, b, s .register); ram = omega (arith, c, s .ram) }
 
 -- room for each space
-pub front-lengths : (l : Lengths) → Fits l → (a b c : List ℕ) → mostBytes ≡ length a → mostBytes ≡ length b → mostBytes ≡ length c
+pub front-lengths : (l : Lengths) → Fits l → (a b c : List ℕ) → mostCaseBytes ≡ length a → mostCaseBytes ≡ length b → mostCaseBytes ≡ length c
     → lengthsOf (spaces (take (l .unique) a) (take (l .register) b) (take (l .ram) c)) ≡ l
 unfolding lengthsOf
 front-lengths l f a b c p q r =

@@ -3,7 +3,7 @@ ghost use mathlib.Core.Path.{_≡_};
 ghost use Prim.Native.Nat.{_+_, _*_, _≤_};
 ghost use lib.ListN.{length, take, drop};
 ghost use Rattle.machine.specs.Memory.{spaces, lengthsOf};
-ghost use Rattle.case_line.specs.Case.{mostBytes};
+ghost use Rattle.case_line.specs.Case.{mostCaseBytes};
 ghost use Rattle.case_line.specs.Buffers.{memoryIn, caseIn, Fits, Sound};
 ghost use Rattle.printing.specs.Appended.{Appended};
 ghost use Rattle.outcome_text.specs.Outcome.{outcomeText};
@@ -54,7 +54,7 @@ pub fn run_case(
 }
 
 fn zeros() -> [u8; MOST_BYTES]
-    ensures { λ r. ⌜ mostBytes ≡ length r ⌝ }
+    ensures { λ r. ⌜ mostCaseBytes ≡ length r ⌝ }
 {
     [0; MOST_BYTES]
 }
@@ -99,7 +99,7 @@ fn run_in(
 
 // Takes the three spaces out of the buffer that they share.
 fn fill(buffer: &[u8], unique: &mut [u8], register: &mut [u8], ram: &mut [u8])
-    requires { ⌜ length (now buffer) ≡ 3 * mostBytes ⌝ }
+    requires { ⌜ length (now buffer) ≡ 3 * mostCaseBytes ⌝ }
     requires { ⌜ Fits (lengthsOf (spaces (now unique) (now register) (now ram))) ⌝ }
     ensures { λ _. ⌜ spaces (now (unique .exit)) (now (register .exit)) (now (ram .exit))
         ≡ memoryIn (lengthsOf (spaces (now (unique .entry)) (now (register .entry)) (now (ram .entry)))) (now (buffer .entry)) ⌝ }

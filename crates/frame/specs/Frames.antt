@@ -13,18 +13,18 @@ use Rattle.frame.specs.declared.Frame.the-variants.{Opening, Bytes, Oper
 -- 01: byte order, A (2 digits each), lengths of unique, register, ram and budget (8 each).
 unfoldable pub openingOf : (line : List ℕ) → Frame
 openingOf s =
-    cond (eqb (length s) 38)
+    cond (eqb (length s) (2 + 2 * 2 + 4 * 8))
     (Opening
     (record { order = numberAt s 2 2; «address_size» = numberAt s 4 2 })
     (record { unique = numberAt s 6 8; register = numberAt s 14 8; ram = numberAt s 22 8 })
     (numberAt s 30 8))
     Bad
 
--- 02: space, offset (8), 1 to 32 bytes; 03: the same with labels. With one byte a line has 14 digits, with 32 bytes 76.
+-- 02: space, offset (8), 1 to 32 bytes; 03: the same with labels. Twelve digits stand before the bytes.
 unfoldable pub bytesFrameOf : (labels : Bool) → (line : List ℕ) → Frame
 bytesFrameOf labels s =
-    cond (ltb (length s) 14) Bad
-    (cond (ltb 76 (length s)) Bad
+    cond (ltb (length s) (12 + 2 * 1)) Bad
+    (cond (ltb (12 + 2 * 32) (length s)) Bad
     (cond (eqb (length s % 2) 0) (Bytes labels (numberAt s 2 2) (numberAt s 4 8) (length s / 2 - 6)) Bad))
 
 -- The bytes or labels of such a line, of which it has n.
@@ -33,7 +33,7 @@ bytesOn n s = tabulate n (λ i. numberAt s (12 + 2 * i) 2)
 
 -- 04: five words of an operation, 16 digits each.
 unfoldable pub operationOf : (line : List ℕ) → Frame
-operationOf s = cond (eqb (length s) 82) Operation Bad
+operationOf s = cond (eqb (length s) (2 + 16 * wordsPerOperation)) Operation Bad
 
 -- The words of such a line.
 unfoldable pub wordsOn : (line : List ℕ) → List ℕ

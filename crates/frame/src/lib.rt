@@ -3,6 +3,7 @@ ghost use mathlib.Core.Path.{_≡_};
 ghost use Prim.Native.Nat.{_+_, _*_, _≤_};
 ghost use lib.ListN.{length};
 ghost use lib.Seq.{sets};
+ghost use Rattle.operation.specs.Layout.{wordsPerOperation};
 ghost use Rattle.frame.specs.Frames.{openingOf, bytesFrameOf, operationOf, frameBy, frameOf, bytesOn, wordsOn};
 use hexadecimal::number;
 use operation::layout::Lengths;
@@ -131,7 +132,7 @@ pub fn put_bytes(s: &[u8], n: usize, memory: &mut [u8], place: usize)
 
 // Stores the words of a 04 line at a place.
 pub fn put_words(s: &[u8], words: &mut [u64], place: usize)
-    requires { ⌜ (82 ≤ length (now s)) × (place + 5 ≤ length (now words)) ⌝ }
+    requires { ⌜ (2 + 16 * wordsPerOperation ≤ length (now s)) × (place + wordsPerOperation ≤ length (now words)) ⌝ }
     ensures { λ _. ⌜ now (words .exit) ≡ sets (now (words .entry)) place (wordsOn (now (s .entry))) ⌝ }
 {
     let mut i = 0;

@@ -2,7 +2,7 @@
 use Prim.Native.Nat.{ℕ, _+_, _*_, _≤_}
 use lib.ListN.{length}
 use Rattle.machine.specs.Memory.{Memory}
-use Rattle.case_line.specs.Case.{mostBytes}
+use Rattle.case_line.specs.Case.{mostCaseBytes}
 use Rattle.outcome_text.specs.Outcome.{logRoom}
 
 -- 256 lines a space, of at most 45 bytes.
@@ -14,6 +14,6 @@ abbrev pub outputRoom : ℕ
 outputRoom = 105 + 17 * logRoom + 2 * memoryRoom
 
 pub record Small (m : Memory) : Type 0 where
-  pub unique : length (m .unique) ≤ mostBytes
-  pub register : length (m .register) ≤ mostBytes
-  pub ram : length (m .ram) ≤ mostBytes
+  pub unique : length (m .unique) ≤ mostCaseBytes
+  pub register : length (m .register) ≤ mostCaseBytes
+  pub ram : length (m .ram) ≤ mostCaseBytes
