@@ -14,6 +14,9 @@ ghost use Rattle.machine.specs.Calls.{plainRun, plainStep, labelledRun, labelle
 ghost use Rattle.exports_runs.specs.Buffers.{roomFault, settingsOf, plainBuffers, labelledBuffers, after};
 ghost use Rattle.exports_values.specs.Faults.{valueFault, gatherFault, scatterFault};
 
+// The step is a run with budget 1.
+const STEP_BUDGET: u32 = 1;
+
 #[no_mangle]
 pub extern "C" fn undrelvoa_value(
     opcode: u64,
@@ -130,7 +133,7 @@ pub extern "C" fn undrelvoa_step(
         address_size,
         list,
         start,
-        1,
+        STEP_BUDGET,
         unique,
         register,
         ram,
@@ -212,7 +215,7 @@ pub extern "C" fn undrelvoa_labelled_step(
         address_size,
         list,
         start,
-        1,
+        STEP_BUDGET,
         unique,
         register,
         ram,

@@ -7,6 +7,7 @@ pub mod Noninterference
 pub mod Budget
 pub mod Kept
 pub mod Resume
+pub mod Order
 pub mod Limits
 pub mod Marked
 pub mod Moves

@@ -4,6 +4,7 @@ pub mod Run
 pub mod Calls
 pub mod Noninterference
 pub mod Resume
+pub mod Order
 pub mod Limits
 pub mod Marked
 pub mod Conditions

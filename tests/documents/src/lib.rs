@@ -2,6 +2,7 @@
 //! trace nor a link goes stale. Each check returns all its problems at once, one a line.
 
 pub mod declared;
+pub mod edits;
 pub mod links;
 pub mod machine;
 pub mod markdown;

@@ -52,7 +52,17 @@ fn problems_of_row(
         let found = problems_of_cell(repository, cell, named);
         problems.extend(found.into_iter().map(|problem| format!("{title}: {problem}")));
     }
+    let edits = edits_of(rest);
+    if edits.len() > 1 {
+        problems.push(format!("one must-fail edit is enough for a row, and it names {edits:?}"));
+    }
     problems
+}
+
+/// The must-fail edits that some cells name.
+fn edits_of(cells: &[String]) -> Vec<&str> {
+    let named = cells.iter().filter_map(|cell| references(cell).ok()).flatten();
+    named.map(|reference| reference.path).filter(|path| is_edit(path)).collect()
 }
 
 fn problems_of_cell(
@@ -157,6 +167,12 @@ mod tests {
         );
         let no_paper = format!("{good}| | none: a | none: b | none: c |\n");
         assert_eq!(problems_of(&no_paper), [format!("{DOCUMENT}:6: Paper: the cell is empty")]);
+    }
+
+    #[test]
+    fn a_row_with_two_edits_is_reported() {
+        let problem = only_problem(&format!("`{EDIT}`"));
+        assert!(problem.contains(":5: one must-fail edit is enough"), "{problem}");
     }
 
     #[test]

@@ -1,7 +1,7 @@
 //! The checks, on the repository that this package stands in.
 
 use documents::repository::Repository;
-use documents::{links, machine, promises, trace};
+use documents::{edits, links, machine, promises, trace};
 use std::env;
 use std::path::Path;
 
@@ -21,6 +21,11 @@ fn the_trace_leads_to_what_is_declared() {
 #[test]
 fn the_promises_are_declared() {
     must_have_no_problem(promises::problems);
+}
+
+#[test]
+fn no_line_has_two_edits() {
+    must_have_no_problem(edits::problems);
 }
 
 #[test]
