@@ -1,10 +1,14 @@
 //! Damage to a text: mostly it makes a line bad.
 
-use reference::case::{LABELS_FRAME, MEMORY_FRAME, MOST_BYTES_A_LINE, MOST_OPERATIONS};
+use std::ops::Range;
+
+use reference::case::{output, LABELS_FRAME, MEMORY_FRAME, MOST_BYTES_A_LINE, MOST_OPERATIONS};
+use reference::run::BUDGET;
 use reference::varnode::{CONSTANT, RAM, REGISTER, UNIQUE};
 
 use crate::lines::bytes_line;
 use crate::random::Random;
+use crate::tally::ending;
 
 /// Bytes that are no digits: neighbours of the digits, blanks, line ends, and bytes whose low bits are
 /// a digit's.
@@ -135,6 +139,26 @@ fn repeat_an_operation(text: &mut Vec<u8>) {
     }
 }
 
+/// Where a text has its budget, and the largest one for a run that does not end by itself.
+const BUDGET_DIGITS: Range<usize> = 30..38;
+const LARGE_BUDGET: &[u8; 8] = b"00010000";
+
+/// Gives a text a smaller budget where damage took away what ended its run, which would then go on
+/// for minutes. The text stays as it is otherwise.
+pub fn limit_run(text: &mut Vec<u8>) {
+    let is_digit = |byte: &u8| byte.is_ascii_digit() || (b'a'..=b'f').contains(byte);
+    let Some(budget) = text.get(BUDGET_DIGITS) else { return };
+    // Digits of one number compare as their values do.
+    if !budget.iter().all(is_digit) || budget <= LARGE_BUDGET {
+        return;
+    }
+    let mut limited = text.clone();
+    limited[BUDGET_DIGITS].copy_from_slice(LARGE_BUDGET);
+    if ending(&output(&limited)) == Some(BUDGET) {
+        *text = limited;
+    }
+}
+
 /// The lines with their newlines.
 fn lines_of(text: &[u8]) -> Vec<Vec<u8>> {
     text.split_inclusive(|&byte| byte == b'\n').map(<[u8]>::to_vec).collect()
@@ -148,7 +172,9 @@ fn index<T>(items: &[T], random: &mut Random) -> Option<usize> {
 #[cfg(test)]
 mod tests {
     use super::*;
-    use reference::case::output;
+    use crate::lines::{operation_line, settings_line};
+    use reference::varnode::Lengths;
+    use reference::verdict::Settings;
 
     #[test]
     fn any_text_can_be_damaged() {
@@ -160,5 +186,29 @@ mod tests {
                 assert!(!output(&text).is_empty());
             }
         }
+    }
+
+    /// A text whose run is a BRANCH by a distance, with this budget.
+    fn branch_by(distance: u64, budget: u32) -> Vec<u8> {
+        let settings = Settings { order: 0, address_size: 4 };
+        let lengths = Lengths { unique: 1, register: 1, ram: 1 };
+        let branch = operation_line(&[0x11_00_04, 0, distance, 0, 0]);
+        (settings_line(&settings, &lengths, budget) + &branch).into_bytes()
+    }
+
+    fn limited(mut text: Vec<u8>) -> Vec<u8> {
+        limit_run(&mut text);
+        text
+    }
+
+    #[test]
+    fn only_a_run_without_an_end_is_limited() {
+        assert_eq!(limited(branch_by(0, u32::MAX)), branch_by(0, 0x1_0000));
+        assert_eq!(limited(branch_by(0, 0x1_0001)), branch_by(0, 0x1_0000));
+        for text in [branch_by(0, 0x1_0000), branch_by(0, 7), branch_by(1, u32::MAX), vec![]] {
+            assert_eq!(limited(text.clone()), text);
+        }
+        let bad_budget = branch_by(0, u32::MAX).to_ascii_uppercase();
+        assert_eq!(limited(bad_budget.clone()), bad_budget);
     }
 }

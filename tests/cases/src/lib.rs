@@ -9,8 +9,10 @@ pub mod random_cases;
 pub mod stored;
 pub mod tally;
 
-// The random lists of tests/compare. That package itself cannot be a dependency: it links the
-// interpreter's archive.
+// The campaigns and the random lists of tests/compare. That package itself cannot be a dependency: it
+// links the interpreter's archive.
+#[path = "../../compare/src/campaign.rs"]
+pub mod campaign;
 #[path = "../../compare/src/inputs.rs"]
 pub mod inputs;
 #[path = "../../compare/src/lists.rs"]

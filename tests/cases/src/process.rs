@@ -1,6 +1,7 @@
 //! The case program as a process: where it is, and what it prints.
 
 use std::env;
+use std::fs;
 use std::io::{self, Read, Write};
 use std::path::{Path, PathBuf};
 use std::process::{Child, Command, ExitStatus, Stdio};
@@ -120,17 +121,32 @@ fn read_all(pipe: Option<impl Read>) -> Vec<u8> {
 
 /// Fails unless the program printed what it should, and came to its own end.
 pub fn assert_printed(printed: &Printed, expected: &[u8], text: &[u8], what: &str) {
-    let agrees = printed.stdout == expected && printed.status.code().is_some();
-    assert!(
-        agrees,
-        "the case program is wrong on {what} ({})\n\
-         text: {}\nprinted: {}\nexpected: {}\nstandard error: {}",
-        printed.status,
-        excerpt(text),
-        excerpt(&printed.stdout),
-        excerpt(expected),
-        excerpt(&printed.stderr)
-    );
+    if printed.stdout != expected || printed.status.code().is_none() {
+        panic!(
+            "the case program is wrong on {what} ({})\n\
+             text: {}\nprinted: {}\nexpected: {}\nstandard error: {}\n{}",
+            printed.status,
+            excerpt(text),
+            excerpt(&printed.stdout),
+            excerpt(expected),
+            excerpt(&printed.stderr),
+            keep(text)
+        );
+    }
+}
+
+/// Writes a text on which a test failed to a file of the test's name, and says how to run it.
+fn keep(text: &[u8]) -> String {
+    const FOLDER: &str = "target/failing-cases";
+    let test = thread::current();
+    let path = format!("{FOLDER}/{}", test.name().unwrap_or_default());
+    let top = repository();
+    let written =
+        fs::create_dir_all(top.join(FOLDER)).and_then(|()| fs::write(top.join(&path), text));
+    match written {
+        Ok(()) => format!("to run the program on this text: ./run-case {path}"),
+        Err(error) => format!("the text could not be written to {path}: {error}"),
+    }
 }
 
 /// As much of some bytes as can be read in a failure's message.

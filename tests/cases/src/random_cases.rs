@@ -46,8 +46,8 @@ pub struct Cases {
 }
 
 impl Cases {
-    pub fn new(seed: u64) -> Cases {
-        Cases { lists: Generator::new(seed) }
+    pub fn new(random: Random) -> Cases {
+        Cases { lists: Generator::new(random) }
     }
 
     pub fn random(&mut self) -> &mut Random {
@@ -85,12 +85,20 @@ impl Cases {
     /// Changes one thing, which mostly gives 10, 12 or 21 to 26.
     fn damage(&mut self, case: &mut Case) {
         match self.random().below(10) {
-            0 => self.lists.damage_settings(&mut case.call.settings),
+            0 => self.damage_settings(&mut case.call.settings),
             1 => self.damage_label(&mut case.labels),
             2 => self.lists.damage_order(&mut case.call.list),
             3 => self.add_lost_branch(&mut case.call.list),
             _ => self.lists.damage_operation(&mut case.call),
         }
+    }
+
+    /// Makes a setting any number of two digits, which is what a line has room for: the budget is
+    /// drawn for the run that the text will ask for.
+    fn damage_settings(&mut self, settings: &mut Settings) {
+        self.lists.damage_settings(settings);
+        settings.order %= 0x100;
+        settings.address_size %= 0x100;
     }
 
     /// Makes one label a number that is none.

@@ -1,6 +1,7 @@
 //! The interpreter's C interface, and what its comparison with the second program needs.
 
 pub mod agreement;
+pub mod campaign;
 pub mod inputs;
 pub mod lists;
 pub mod programs;

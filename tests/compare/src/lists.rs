@@ -2,6 +2,7 @@
 
 use std::array::from_fn;
 use std::ops::Range;
+use std::sync::LazyLock;
 
 use reference::answers::VerdictCall;
 use reference::list::{list_of, varnode, Entry, WORDS_PER_OPERATION};
@@ -54,19 +55,22 @@ pub(crate) struct Frame {
     pub count: u64,
 }
 
+/// The sizes that an operation allows, by address size and opcode, both counted from 1.
+static MIXES: LazyLock<Vec<Vec<Vec<Sizes>>>> = LazyLock::new(|| {
+    let of_address_size = |address_size| {
+        OPERATIONS.iter().map(|operation| operation.allowed_sizes(address_size)).collect()
+    };
+    SIZES.map(of_address_size).collect()
+});
+
 /// Makes random calls of the judge.
 pub struct Generator {
     pub(crate) random: Random,
-    /// The sizes that an operation allows, by address size and opcode, both counted from 1.
-    mixes: Vec<Vec<Vec<Sizes>>>,
 }
 
 impl Generator {
-    pub fn new(seed: u64) -> Generator {
-        let of_address_size = |address_size| {
-            OPERATIONS.iter().map(|operation| operation.allowed_sizes(address_size)).collect()
-        };
-        Generator { random: Random::new(seed), mixes: SIZES.map(of_address_size).collect() }
+    pub fn new(random: Random) -> Generator {
+        Generator { random }
     }
 
     /// How many words to lend for a report: once in a while too few.
@@ -140,7 +144,7 @@ impl Generator {
         frame: &Frame,
         index: u64,
     ) -> Option<Entry> {
-        let mixes = &self.mixes[frame.address_size as usize - 1][operation.number() as usize - 1];
+        let mixes = &MIXES[frame.address_size as usize - 1][operation.number() as usize - 1];
         let sizes = self.random.pick(mixes);
         let mut varnodes = [None; 4];
         if operation.has_output {

@@ -14,6 +14,7 @@ use reference::verdict::{Settings, LONGEST_SPACE};
 
 use crate::inputs::{largest_value, GOOD_ORDERS, LARGE_OFFSETS};
 use crate::lists::{Frame, Generator};
+use crate::random::Random;
 use crate::runs::Case;
 
 /// The most operations that a run executes which does not end by itself.
@@ -38,18 +39,17 @@ struct Draft {
 }
 
 impl Programs {
-    pub fn new(seed: u64) -> Programs {
-        Programs { lists: Generator::new(seed) }
+    pub fn new(random: Random) -> Programs {
+        Programs { lists: Generator::new(random) }
+    }
+
+    pub fn random(&mut self) -> &mut Random {
+        &mut self.lists.random
     }
 
     /// How many words to lend for a report: once in a while too few.
     pub fn report_len(&mut self) -> u64 {
         self.lists.report_len()
-    }
-
-    /// A number below `limit`.
-    pub fn below(&mut self, limit: u64) -> u64 {
-        self.lists.random.below(limit)
     }
 
     /// A case, damaged once in three times.
@@ -68,6 +68,10 @@ impl Programs {
         let mut case = self.case_without_limits();
         self.set_budget_and_log(&mut case);
         case
+    }
+
+    fn below(&mut self, limit: u64) -> u64 {
+        self.lists.random.below(limit)
     }
 
     fn once_in(&mut self, times: u64) -> bool {

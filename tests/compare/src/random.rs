@@ -2,6 +2,9 @@
 
 use crate::inputs::largest_value;
 
+/// What the state grows by from word to word.
+const STEP: u64 = 0x9e3779b97f4a7c15;
+
 /// The splitmix64 generator.
 pub struct Random {
     state: u64,
@@ -12,9 +15,16 @@ impl Random {
         Random { state: seed }
     }
 
+    /// The generator of the input with this number. Its seed is the word of this seed's own generator
+    /// that comes after `number` others, which need not be drawn for it.
+    pub fn of_input(seed: u64, number: u64) -> Random {
+        let mut seeds = Random::new(seed.wrapping_add(number.wrapping_mul(STEP)));
+        Random::new(seeds.word())
+    }
+
     /// Any 64-bit number.
     pub fn word(&mut self) -> u64 {
-        self.state = self.state.wrapping_add(0x9e3779b97f4a7c15);
+        self.state = self.state.wrapping_add(STEP);
         let mut word = self.state;
         word = (word ^ (word >> 30)).wrapping_mul(0xbf58476d1ce4e5b9);
         word = (word ^ (word >> 27)).wrapping_mul(0x94d049bb133111eb);

@@ -4,6 +4,7 @@
 use std::iter::zip;
 
 use compare::agreement::Tally;
+use compare::campaign::Campaign;
 use compare::programs::Programs;
 use compare::random::Random;
 use compare::runs::{check_run, interpreter_report, Case, Job};
@@ -18,6 +19,8 @@ use reference::verdict::Settings;
 const RANDOM_RUNS: u64 = 500_000;
 const STEPPED_RUNS: u64 = 50_000;
 const MEMORY_PAIRS: u64 = 100_000;
+/// How many runs are tried in parts, and how many of them at least should stop and be resumed.
+const RUNS_IN_PARTS: u64 = 140_000;
 const RESUMED_RUNS: u64 = 50_000;
 
 /// How a plain run can end.
@@ -43,11 +46,12 @@ fn by_name(executed: &Tally) -> String {
 
 /// Compares random runs in the form that `form` gives them.
 fn random_runs(name: &str, form: fn(&Case) -> Case, endings: &[u64]) {
-    let mut programs = Programs::new(RUN_SEED);
+    let mut campaign = Campaign::new(RUN_SEED, RANDOM_RUNS);
     let mut tally = Tally::default();
     let mut executed = Tally::default();
     let mut refused = 0;
-    for _ in 0..RANDOM_RUNS {
+    for (_, random) in campaign.by_ref() {
+        let mut programs = Programs::new(random);
         let Case { call, mut state } = form(&programs.case());
         let count = |opcode| executed.count(opcode as u64);
         let report_len = programs.report_len();
@@ -57,13 +61,15 @@ fn random_runs(name: &str, form: fn(&Case) -> Case, endings: &[u64]) {
         }
     }
     println!(
-        "{name}, random programs: seed {RUN_SEED:#x}, {tally}, {refused} refused for a short report\n\
+        "{name}, random programs: {campaign}, {tally}, {refused} refused for a short report\n\
          {name}, operations executed: {}",
         by_name(&executed)
     );
-    tally.assert_numbers(endings);
-    tally.assert_quota(endings, ENDING_QUOTA);
-    executed.assert_quota(&OPERATIONS.map(|operation| operation.number()), OPCODE_QUOTA);
+    if campaign.is_whole() {
+        tally.assert_numbers(endings);
+        tally.assert_quota(endings, ENDING_QUOTA);
+        executed.assert_quota(&OPERATIONS.map(|operation| operation.number()), OPCODE_QUOTA);
+    }
 }
 
 #[test]
@@ -95,18 +101,21 @@ fn check_steps(mut case: Case, programs: &mut Programs, tally: &mut Tally) {
 #[test]
 fn random_steps() {
     const SEED: u64 = 0x5eed_0042;
-    let mut programs = Programs::new(SEED);
+    let mut campaign = Campaign::new(SEED, STEPPED_RUNS);
     let mut plain = Tally::default();
     let mut labelled = Tally::default();
-    for _ in 0..STEPPED_RUNS {
+    for (_, random) in campaign.by_ref() {
+        let mut programs = Programs::new(random);
         let case = programs.case();
         check_steps(case.plain(), &mut programs, &mut plain);
         check_steps(case, &mut programs, &mut labelled);
     }
-    println!("step, {STEPPED_RUNS} random programs: seed {SEED:#x}, {plain}");
-    println!("labelled step, {STEPPED_RUNS} random programs: seed {SEED:#x}, {labelled}");
-    plain.assert_numbers(&PLAIN_ENDINGS);
-    labelled.assert_numbers(&LABELLED_ENDINGS);
+    println!("step, {} random programs: {campaign}, {plain}", campaign.drawn());
+    println!("labelled step, {} random programs: {campaign}, {labelled}", campaign.drawn());
+    if campaign.is_whole() {
+        plain.assert_numbers(&PLAIN_ENDINGS);
+        labelled.assert_numbers(&LABELLED_ENDINGS);
+    }
 }
 
 /// Whether each byte of the spaces has one label, public or secret.
@@ -132,6 +141,17 @@ fn with_other_secrets(case: &Case, random: &mut Random) -> Case {
     other
 }
 
+/// A case and the same with other secret bytes, drawn until the two differ.
+fn memory_pair(programs: &mut Programs) -> [Case; 2] {
+    loop {
+        let one = programs.case();
+        let other = with_other_secrets(&one, programs.random());
+        if one.state.memory != other.state.memory {
+            return [one, other];
+        }
+    }
+}
+
 /// Whether two memories agree in each byte that is public.
 fn public_bytes_agree(one: &Spaces, other: &Spaces, labels: &Spaces) -> bool {
     zip(labels.all(), zip(one.all(), other.all())).all(|(labels, (bytes, others))| {
@@ -148,19 +168,13 @@ fn written_log(state: &State, report: &[u64; 5]) -> Vec<u64> {
 #[test]
 fn secret_bytes_do_not_show() {
     const SEED: u64 = 0x5eed_0043;
-    let mut programs = Programs::new(SEED);
-    let mut random = Random::new(!SEED);
+    let mut campaign = Campaign::new(SEED, MEMORY_PAIRS);
     let mut tally = Tally::default();
     let mut different_after = 0;
-    let mut pairs = 0;
-    while pairs < MEMORY_PAIRS {
-        let mut one = programs.case();
-        let mut other = with_other_secrets(&one, &mut random);
-        if one.state.memory == other.state.memory {
-            continue;
-        }
-        let before = [one.clone(), other.clone()];
+    for (_, random) in campaign.by_ref() {
+        let before = memory_pair(&mut Programs::new(random));
         let [on_one, on_other] = &before;
+        let [mut one, mut other] = before.clone();
         let report = interpreter_report(Job::Run, &mut one);
         let other_report = interpreter_report(Job::Run, &mut other);
         assert_eq!(report, other_report, "the reports on\n{on_one}and on\n{on_other}");
@@ -177,13 +191,14 @@ fn secret_bytes_do_not_show() {
         }
         tally.count(report[0]);
         different_after += u64::from(one.state.memory != other.state.memory);
-        pairs += 1;
     }
     println!(
-        "labelled run, pairs of memories with other secret bytes: seed {SEED:#x}, {tally}, \
+        "labelled run, pairs of memories with other secret bytes: {campaign}, {tally}, \
          {different_after} with other secret bytes after the run"
     );
-    tally.assert_numbers(&LABELLED_ENDINGS);
+    if campaign.is_whole() {
+        tally.assert_numbers(&LABELLED_ENDINGS);
+    }
 }
 
 /// Fails unless the plain run does what the labelled run did, where that did not end with LEAK and
@@ -250,18 +265,23 @@ fn check_resumed(case: &Case, budgets: &[u32]) -> bool {
 #[test]
 fn resumed_runs_are_one_run() {
     const SEED: u64 = 0x5eed_0044;
-    let mut programs = Programs::new(SEED);
+    let mut campaign = Campaign::new(SEED, RUNS_IN_PARTS);
     let mut plain = 0;
     let mut labelled = 0;
-    while plain < RESUMED_RUNS || labelled < RESUMED_RUNS {
+    for (_, random) in campaign.by_ref() {
+        let mut programs = Programs::new(random);
         let case = programs.well_formed_case();
-        let parts = 2 + programs.below(4);
-        let budgets: Vec<u32> = (0..parts).map(|_| programs.below(12) as u32).collect();
+        let parts = 2 + programs.random().below(4);
+        let budgets: Vec<u32> = (0..parts).map(|_| programs.random().below(12) as u32).collect();
         plain += u64::from(check_resumed(&case.plain(), &budgets));
         labelled += u64::from(check_resumed(&case, &budgets));
     }
-    println!("run, stopped by BUDGET and resumed: seed {SEED:#x}, {plain} agreed");
-    println!("labelled run, stopped by BUDGET and resumed: seed {SEED:#x}, {labelled} agreed");
+    println!("run, stopped by BUDGET and resumed: {campaign}, {plain} agreed");
+    println!("labelled run, stopped by BUDGET and resumed: {campaign}, {labelled} agreed");
+    if campaign.is_whole() {
+        let fewest = RESUMED_RUNS * campaign.times();
+        assert!(plain.min(labelled) >= fewest, "fewer than {fewest} runs were resumed");
+    }
 }
 
 /// A plain case with 8-byte addresses, little byte order and a log of 4 words.

@@ -1,6 +1,7 @@
 //! `undrelvoa_show` and the second program: where the bytes of a varnode lie.
 
 use compare::agreement::{check_show, Tally, MOST_RESULT_WORDS};
+use compare::campaign::Campaign;
 use compare::inputs::{GOOD_AND_BAD_SIZES, LARGE_OFFSETS, SIZES};
 use compare::random::Random;
 use compare::Spaces;
@@ -88,17 +89,19 @@ fn spaces_around_65536_bytes() {
 #[test]
 fn random_calls() {
     const SEED: u64 = 0x5eed_0031;
-    let mut random = Random::new(SEED);
+    let mut campaign = Campaign::new(SEED, RANDOM_CALLS);
     let mut tally = Tally::default();
-    for _ in 0..RANDOM_CALLS {
+    for (_, mut random) in campaign.by_ref() {
         let mut length = || random.below(41);
         let lengths = Lengths { unique: length(), register: length(), ram: length() };
         let varnode = random_varnode(&mut random);
         let place_len = random.below(MOST_RESULT_WORDS + 1);
         tally.count(shown_bytes(&Spaces::of_lengths(&lengths), &varnode, place_len));
     }
-    tally.assert_numbers(&[0, 1, 2, 3, 4, 5, 6, 7, 8, 11]);
-    println!("show, random calls: seed {SEED:#x}, by bytes shown: {tally}");
+    println!("show, random calls: {campaign}, by bytes shown: {tally}");
+    if campaign.is_whole() {
+        tally.assert_numbers(&[0, 1, 2, 3, 4, 5, 6, 7, 8, 11]);
+    }
 }
 
 /// A varnode that is shown more often than not.
