@@ -1,4 +1,4 @@
--- The plain loop, as laws of the machine's run. Assumes nothing.
+-- The plain loop, as laws of the machine's run.
 use Prim.Native.Nat.{ℕ, zero, suc, _+_, _-_, _≤_, _<_}
 use native.Mathlib.Nat.{sub-zero}
 use native.Mathlib.Numerals.{add-one}
@@ -8,30 +8,26 @@ use mathlib.Core.Bool.{Bool, true, false, cond, _&&_}
 use mathlib.Core.List.{List, [], _∷_, _++_, append-nil}
 use borrow.Author.Tests.{lt-ltb, le-ltb, leb-true, leb-false, eq-eqb, ne-eqb}
 use lib.Dec.{eqb, ltb, leb}
-use lib.ListN.{length, take, drop, set, replicate, length-set, take-append-drop}
+use lib.ListN.{length, take, drop, set, length-set, take-append-drop}
 use lib.Seq.{length-take-le, take-suc-set, drop-set-lt, drop-drop}
-use Rattle.operation.specs.Layout.{operationCount}
 use Rattle.word.specs.Word.{bytesOf}
-use Rattle.integer.specs.Operations.{flag}
-use Rattle.arithmetic.specs.Operands.{among}
-use Rattle.machine.specs.Memory.{Memory, OfBytes, lengthsOf, written}
+use Rattle.operation.specs.declared.layout.Lengths.{Lengths}
+use Rattle.operation.specs.Layout.{operationCount}
+use Rattle.machine.specs.Program.{Program, bigEndian}
+use Rattle.machine.specs.Memory.{Memory, OfBytes, lengthsOf, written, valueAt}
 use Rattle.machine.specs.Effect.{Operation, operationAt}
 use Rattle.machine.specs.Run.{Position, logWord, advanced, ended, stepped, continued, run}
 use Rattle.machine.specs.Calls.{Outcome, unlabelled, logAfter, outcomeOf, plainOutcome}
-use Rattle.machine.specs.Conditions.{Words, hasSecret, leaks, becomesSecret}
-use Rattle.machine.proofs.Plain.{nothing-secret, nothing-written}
+use Rattle.machine.specs.Conditions.{Words}
 use Rattle.machine.proofs.Kept.{written-lengths}
-use Rattle.machine.proofs.Conditions.{one-secret}
-use Rattle.operation.specs.declared.layout.Varnode.{Varnode}
-use Rattle.operation.specs.declared.layout.Lengths.{Lengths}
+use Rattle.memory.specs.Placed.{Placed}
 use Rattle.plan.specs.declared.Plan.{Plan}
 use Rattle.plan.specs.Valid.{Valid}
 use Rattle.plan.specs.Plans.{planned}
-use Rattle.execution.specs.Loops.{position}
-use Rattle.plan.proofs.Steps.{wordsOf, carried, stepped-planned}
+use Rattle.plan.proofs.Steps.{wordsOf, carried, step-plain}
 use Rattle.plan.proofs.Bounds.{next-within, target-writable, low-small}
 use Rattle.plan.proofs.Places.{index-small}
-use Rattle.memory.specs.Placed.{Placed}
+use Rattle.execution.specs.Loops.{position}
 
 -- ---- the log
 
@@ -78,26 +74,6 @@ advanced-is log₀ i k executed next w log h due e = rw (pushed-words log₀ log
     room true f = rw length-set (omega arith)
     room false f = omega arith
 
-and-false : (t : Bool) → t && false ≡ false
-and-false true = refl
-and-false false = refl
-
--- nothing leaks without labels
-pub no-leak : (op : Operation) → leaks unlabelled op ≡ false
-unfolding leaks
-no-leak op =
-    rw (
-      public (op .input0),
-      public (op .input1),
-      and-false (among (op .opcode) (2 ∷ 3 ∷ [])),
-      and-false (eqb (op .opcode) 5),
-      and-false (among (op .opcode) (6 ∷ 8 ∷ 9 ∷ [])),
-      and-false (among (op .opcode) (35 ∷ 36 ∷ 37 ∷ 38 ∷ [])),
-    ) refl
-  where
-    public : (v : Varnode) → hasSecret unlabelled v ≡ false
-    public v = sym (one-secret unlabelled v) ∙ nothing-secret (v ∷ [])
-
 pub room-is : (length-log k : ℕ) → k ≤ length-log → eqb (length-log - k) 0 ≡ leb length-log k
 room-is n k h = by (leb n k) refl
   where
@@ -107,16 +83,16 @@ room-is n k h = by (leb n k) refl
 
 -- ---- the run
 
-pub run-end : (big : Bool) (list : List ℕ) (fuel : ℕ) (at : Position) (labels m : Memory) → ltb (at .index) (operationCount list) ≡ false
-    → run big list fuel at labels m ≡ ended 0 0 at labels m
+pub run-end : (program : Program) (fuel : ℕ) (at : Position) (labels m : Memory) → ltb (at .index) (operationCount (program .list)) ≡ false
+    → run program fuel at labels m ≡ ended 0 0 at labels m
 unfolding run stepped continued
-run-end big list zero at labels m e = rw e refl
-run-end big list (suc fuel) at labels m e = rw e refl
+run-end program zero at labels m e = rw e refl
+run-end program (suc fuel) at labels m e = rw e refl
 
-pub run-budget : (big : Bool) (list : List ℕ) (fuel : ℕ) (at : Position) (labels m : Memory) → fuel ≡ 0 → ltb (at .index) (operationCount list) ≡ true
-    → run big list fuel at labels m ≡ ended 2 0 at labels m
+pub run-budget : (program : Program) (fuel : ℕ) (at : Position) (labels m : Memory) → fuel ≡ 0 → ltb (at .index) (operationCount (program .list)) ≡ true
+    → run program fuel at labels m ≡ ended 2 0 at labels m
 unfolding run
-run-budget big list fuel at labels m z e = rw (z, e) refl
+run-budget program fuel at labels m z e = rw (z, e) refl
 
 -- a report and what is in the buffers, as the definition has it
 pub ended-at : (log₀ log : List ℕ) (k : ℕ) → Log log₀ log k → (ending value i executed : ℕ) (labels m : Memory)
@@ -126,79 +102,80 @@ unfolding outcomeOf ended position
 ended-at log₀ log k h ending value i executed labels m = rw (log-is log₀ log k h, length-take-le k log (h .place)) refl
 
 -- what is left to do from here is the whole run
-pub record Going (big : Bool) (list : List ℕ) (budget start from : ℕ) (log₀ : List ℕ) (m₀ : Memory) (i executed k : ℕ) (log : List ℕ) (m : Memory) : Type 0 where
-  pub words : Words list
-  pub valid : Valid (lengthsOf m₀) list
-  pub index : i ≤ operationCount list
+pub record Going (program : Program) (budget start from : ℕ) (log₀ : List ℕ) (m₀ : Memory) (i executed k : ℕ) (log : List ℕ) (m : Memory) : Type 0 where
+  pub words : Words (program .list)
+  pub valid : Valid (lengthsOf m₀) (program .list)
+  pub index : i ≤ operationCount (program .list)
   pub spent : executed ≤ budget
   pub lengths : lengthsOf m ≡ lengthsOf m₀
   pub bytes : OfBytes m
   pub logs : Log log₀ log k
-  pub same : run big list (budget - executed) (position i k executed log) unlabelled m ≡ run big list budget (position start from 0 log₀) unlabelled m₀
+  pub same : run program (budget - executed) (position i k executed log) unlabelled m ≡ run program budget (position start from 0 log₀) unlabelled m₀
 
-module _ (big : Bool) (list : List ℕ) (budget start from : ℕ) (log₀ : List ℕ) (m₀ : Memory) (i executed k : ℕ) (log : List ℕ) (m : Memory)
-    (g : Going big list budget start from log₀ m₀ i executed k log m) where
+module _ (program : Program) (budget start from : ℕ) (log₀ : List ℕ) (m₀ : Memory) (i executed k : ℕ) (log : List ℕ) (m : Memory)
+    (g : Going program budget start from log₀ m₀ i executed k log m) where
   abbrev Finally : Outcome → Type 0
-  Finally o = o ≡ outcomeOf log₀ (run big list budget (position start from 0 log₀) unlabelled m₀)
+  Finally o = o ≡ outcomeOf log₀ (run program budget (position start from 0 log₀) unlabelled m₀)
 
   ended-here : (ending value : ℕ) → plainOutcome (record { ending = ending; index = i; executed = executed; logged = k; value = value }) m log
       ≡ outcomeOf log₀ (ended ending value (position i k executed log) unlabelled m)
   ended-here ending value = ended-at log₀ log k (g .logs) ending value i executed unlabelled m
 
-  finally : (ending value : ℕ) → run big list (budget - executed) (position i k executed log) unlabelled m ≡ ended ending value (position i k executed log) unlabelled m
+  finally : (ending value : ℕ) → run program (budget - executed) (position i k executed log) unlabelled m ≡ ended ending value (position i k executed log) unlabelled m
       → Finally (plainOutcome (record { ending = ending; index = i; executed = executed; logged = k; value = value }) m log)
   finally ending value e = ended-here ending value ∙ ap (outcomeOf log₀) (sym e ∙ g .same)
 
-  pub at-end : i ≡ operationCount list → Finally (plainOutcome (record { ending = 0; index = i; executed = executed; logged = k; value = 0 }) m log)
+  pub at-end : i ≡ operationCount (program .list) → Finally (plainOutcome (record { ending = 0; index = i; executed = executed; logged = k; value = 0 }) m log)
   unfolding position
   at-end e = finally 0 0 (end (budget - executed))
     where
-      over : ltb i (operationCount list) ≡ false
-      over = le-ltb i (operationCount list) (omega arith)
+      over : ltb i (operationCount (program .list)) ≡ false
+      over = le-ltb i (operationCount (program .list)) (omega arith)
 
-      end : (fuel : ℕ) → run big list fuel (position i k executed log) unlabelled m ≡ ended 0 0 (position i k executed log) unlabelled m
-      end fuel = run-end big list fuel (position i k executed log) unlabelled m over
+      end : (fuel : ℕ) → run program fuel (position i k executed log) unlabelled m ≡ ended 0 0 (position i k executed log) unlabelled m
+      end fuel = run-end program fuel (position i k executed log) unlabelled m over
 
-  pub at-budget : (i ≡ operationCount list → ⊥) → executed ≡ budget → Finally (plainOutcome (record { ending = 2; index = i; executed = executed; logged = k; value = 0 }) m log)
+  pub at-budget : (i ≡ operationCount (program .list) → ⊥) → executed ≡ budget → Finally (plainOutcome (record { ending = 2; index = i; executed = executed; logged = k; value = 0 }) m log)
   unfolding position
-  at-budget more e = finally 2 0 (run-budget big list (budget - executed) (position i k executed log) unlabelled m (omega arith) (lt-ltb i (operationCount list) (let h : i ≤ operationCount list = g .index in omega arith)))
+  at-budget more e =
+      let h : i ≤ operationCount (program .list) = g .index in
+      finally 2 0 (run-budget program (budget - executed) (position i k executed log) unlabelled m (omega arith) (lt-ltb i (operationCount (program .list)) (omega arith)))
 
-  module _ (more : i ≡ operationCount list → ⊥) (left : executed ≡ budget → ⊥) where
-    pub before-end : i < operationCount list
-    before-end = let h : i ≤ operationCount list = g .index in omega arith
+  module _ (more : i ≡ operationCount (program .list) → ⊥) (left : executed ≡ budget → ⊥) where
+    pub before-end : i < operationCount (program .list)
+    before-end = let h : i ≤ operationCount (program .list) = g .index in omega arith
 
-    pub still : Valid (lengthsOf m) list
-    still = subst (λ (l : Lengths). Valid l list) (sym (g .lengths)) (g .valid)
+    pub still : Valid (lengthsOf m) (program .list)
+    still = subst (λ (l : Lengths). Valid l (program .list)) (sym (g .lengths)) (g .valid)
 
-    pub may-plan : Valid (lengthsOf m) list × (i < operationCount list)
+    pub may-plan : Valid (lengthsOf m) (program .list) × (i < operationCount (program .list))
     may-plan = (still, before-end)
 
     fuel : budget - executed ≡ suc (budget - (executed + 1))
     fuel = let h : executed ≤ budget = g .spent in omega arith
 
-    module _ (p : Plan) (ep : p ≡ planned big m (operationAt list i) i) where
-      -- the definition's step, by the plan
-      step-is : stepped big list (position i k executed log) unlabelled m ≡ carried big p (position i k executed log) (becomesSecret big unlabelled m (operationAt list i)) unlabelled m
-      unfolding position
-      step-is =
-          stepped-planned big list (position i k executed log) unlabelled m (g .words) (g .bytes) still before-end
-          ∙ rw (no-leak (operationAt list i), ← ep) refl
+    abbrev pub op : Operation
+    op = operationAt (program .list) i
 
-      pub run-step : run big list (budget - executed) (position i k executed log) unlabelled m
-          ≡ continued (run big list (budget - (executed + 1)))
-          (carried big p (position i k executed log) (becomesSecret big unlabelled m (operationAt list i)) unlabelled m)
-      unfolding run
-      run-step = rw (fuel, step-is) refl
+    abbrev pub P : Plan
+    P = planned program m op i (valueAt (program .settings) m (op .input0)) (valueAt (program .settings) m (op .input1))
+
+    module _ (p : Plan) (ep : p ≡ P) where
+      -- the definition's step, by the plan
+      run-step : run program (budget - executed) (position i k executed log) unlabelled m
+          ≡ continued (run program (budget - (executed + 1))) (carried program p (position i k executed log) unlabelled unlabelled m)
+      unfolding run position
+      run-step = rw (fuel, step-plain program (position i k executed log) m (g .words) (g .bytes) still before-end, ← ep) refl
 
       pub at-stop : 1 < p .stop → Finally (plainOutcome (record { ending = p .stop; index = i; executed = executed; logged = k; value = 0 }) m log)
       unfolding carried continued
       at-stop h = finally (p .stop) 0 (run-step ∙ rw (lt-ltb 1 (p .stop) h) refl)
 
       pub may-log : (i < 4096) × (p .low ≤ 65536)
-      may-log = (index-small (lengthsOf m) list still i before-end, rw ep (low-small big m list i still before-end))
+      may-log = (index-small (lengthsOf m) (program .list) still i before-end, rw ep (low-small program m i still before-end _ _))
 
       pub may-write : Placed m (p .target)
-      may-write = rw ep (target-writable big m list i still before-end)
+      may-write = rw ep (target-writable program m i still before-end _ _)
 
       module _ (go : p .stop ≤ 1) (full : Bool) (ef : full ≡ p .due && leb (length log) k) where
         due-room : p .due && eqb (position i k executed log .room) 0 ≡ full
@@ -227,36 +204,32 @@ module _ (big : Bool) (list : List ℕ) (budget start from : ℕ) (log₀ : List
           pub at-exit : p .stop ≡ 1 → Finally (plainOutcome (record { ending = 1; index = i; executed = executed + 1; logged = k′; value = p .value }) m log′)
           unfolding carried continued position
           at-exit e =
-              exited
+              ended-at log₀ log′ k′ logs-kept 1 (p .value) i (executed + 1) unlabelled m
               ∙ ap (outcomeOf log₀) (sym (run-step ∙ rw (le-ltb 1 (p .stop) go, due-room, f, eq-eqb (p .stop) 1 e, moved-on i) refl) ∙ g .same)
-            where
-              exited : plainOutcome (record { ending = 1; index = i; executed = executed + 1; logged = k′; value = p .value }) m log′
-                  ≡ outcomeOf log₀ (ended 1 (p .value) (position i k′ (executed + 1) log′) unlabelled m)
-              exited = ended-at log₀ log′ k′ logs-kept 1 (p .value) i (executed + 1) unlabelled m
 
-          pub at-next : (p .stop ≡ 1 → ⊥) → (m′ : Memory) → m′ ≡ written m (p .target) (bytesOf big (p .target .size) (p .value)) → OfBytes m′
-              → Going big list budget start from log₀ m₀ (p .next) (executed + 1) k′ log′ m′
+          pub at-next : (p .stop ≡ 1 → ⊥) → (m′ : Memory) → m′ ≡ written m (p .target) (bytesOf (bigEndian (program .settings)) (p .target .size) (p .value)) → OfBytes m′
+              → Going program budget start from log₀ m₀ (p .next) (executed + 1) k′ log′ m′
           unfolding carried continued position
           at-next e m′ em b = record {
             words = g .words;
             valid = g .valid;
-            index = rw ep (next-within big m list i still before-end (g .words) (g .bytes));
+            index = rw ep (next-within program m i still before-end (g .words) (g .bytes) _ _);
             spent = let h : executed ≤ budget = g .spent in omega arith;
-            lengths = rw em (written-lengths m (p .target) (bytesOf big (p .target .size) (p .value)) ∙ g .lengths);
+            lengths = rw em (written-lengths m (p .target) (bytesOf (bigEndian (program .settings)) (p .target .size) (p .value)) ∙ g .lengths);
             bytes = b;
             logs = logs-kept;
             same = sym went ∙ g .same;
           }
             where
-              went : run big list (budget - executed) (position i k executed log) unlabelled m ≡ run big list (budget - (executed + 1)) (position (p .next) k′ (executed + 1) log′) unlabelled m′
+              went : run program (budget - executed) (position i k executed log) unlabelled m ≡ run program (budget - (executed + 1)) (position (p .next) k′ (executed + 1) log′) unlabelled m′
               went =
                   run-step
-                  ∙ rw (le-ltb 1 (p .stop) go, due-room, f, ne-eqb (p .stop) 1 e, moved-on (p .next), nothing-written (p .target) (replicate (p .target .size) (flag (becomesSecret big unlabelled m (operationAt list i)))), ← em) refl
+                  ∙ rw (le-ltb 1 (p .stop) go, due-room, f, ne-eqb (p .stop) 1 e, moved-on (p .next), ← em) refl
 
 -- a loop begins with the whole run before it
-pub begun : (big : Bool) (list : List ℕ) (budget start from : ℕ) (log : List ℕ) (m : Memory) → Words list → Valid (lengthsOf m) list → start ≤ operationCount list
-    → OfBytes m → from ≤ length log → Going big list budget start from log m start 0 from log m
-begun big list budget start from log m words v h b l = record {
+pub begun : (program : Program) (budget start from : ℕ) (log : List ℕ) (m : Memory) → Words (program .list) → Valid (lengthsOf m) (program .list) → start ≤ operationCount (program .list)
+    → OfBytes m → from ≤ length log → Going program budget start from log m start 0 from log m
+begun program budget start from log m words v h b l = record {
   words = words;
   valid = v;
   index = h;

@@ -4,6 +4,7 @@ ghost use mathlib.Core.Bool.{true, false, cond};
 ghost use Prim.Native.Nat.{_+_, _≤_, _<_};
 ghost use lib.ListN.{length, set};
 ghost use Rattle.operation.specs.Layout.{operationCount};
+ghost use Rattle.machine.specs.Program.{programOf};
 ghost use Rattle.machine.specs.Memory.{spaces, lengthsOf};
 ghost use Rattle.machine.specs.Run.{logWord, run};
 ghost use Rattle.machine.specs.Calls.{unlabelled, outcomeOf, plainOutcome};
@@ -11,13 +12,14 @@ ghost use Rattle.plan.specs.Valid.{Valid};
 ghost use Rattle.execution.specs.Loops.{position};
 use integer::boolean::both;
 use memory::varnode::write;
+use operation::layout::Settings;
 use operation::report::Report;
 use plan::plan_at;
 use validation::operation_count;
 
 // A run from operation `start`, with the first `from` words of the log written before.
 pub fn run_from(
-    big: bool,
+    settings: Settings,
     list: &[u64],
     unique: &mut [u8],
     register: &mut [u8],
@@ -29,7 +31,7 @@ pub fn run_from(
 ) -> Report
     requires { ⌜ Valid (lengthsOf (spaces (now unique) (now register) (now ram))) (now list) × (start ≤ operationCount (now list)) × (from ≤ length (now log)) ⌝ }
     ensures { λ r. ⌜ plainOutcome r (spaces (now (unique .exit)) (now (register .exit)) (now (ram .exit))) (now (log .exit))
-        ≡ outcomeOf (now (log .entry)) (run big (now (list .entry)) budget (position start from 0 (now (log .entry))) unlabelled
+        ≡ outcomeOf (now (log .entry)) (run (programOf settings (now (list .entry))) budget (position start from 0 (now (log .entry))) unlabelled
         (spaces (now (unique .entry)) (now (register .entry)) (now (ram .entry)))) ⌝ }
 {
     let count = operation_count(list);
@@ -43,7 +45,7 @@ pub fn run_from(
         if executed == budget {
             return report(2, i, executed, k, 0);
         }
-        let p = plan_at(big, list, unique, register, ram, i);
+        let p = plan_at(settings, list, unique, register, ram, i);
         if 1 < p.stop {
             return report(p.stop, i, executed, k, 0);
         }
@@ -56,7 +58,7 @@ pub fn run_from(
             return report(1, i, executed, k, p.value);
         }
         let target = p.target;
-        write(big, unique, register, ram, target, p.value);
+        write(settings, unique, register, ram, target, p.value);
         i = p.next;
     }
 }

@@ -1,2 +1,4 @@
+pub mod Parts
+pub mod Turning
 pub mod Marking
-pub mod Tracking
+pub mod OneTurn

@@ -1,25 +1,38 @@
-// The labelled run: LEAK, then the plain run of one operation, then its labels.
+// Both runs. A turn looks for LEAK, runs operations by the plain loop, and marks what was written. A labelled run gives each turn one
+// operation; a plain run is one turn with the whole budget. The plain loop and the turn have one caller each, so that the compiler inlines them.
 ghost use mathlib.Core.Path.{_≡_};
-ghost use Prim.Native.Nat.{_≤_};
-ghost use Rattle.operation.specs.Layout.{operationCount};
+ghost use mathlib.Core.Bool.{true, false, cond, not, _&&_};
+ghost use Prim.Native.Nat.{_+_, _*_, _≤_, _<_};
+ghost use lib.Dec.{eqb, ltb};
+ghost use lib.ListN.{length};
+ghost use Rattle.operation.specs.Layout.{wordsPerOperation, operationCount, opcodeAt};
+ghost use Rattle.operation.specs.Rules.{accesses};
+ghost use Rattle.machine.specs.Program.{programOf};
 ghost use Rattle.machine.specs.Memory.{spaces, lengthsOf};
-ghost use Rattle.machine.specs.Run.{run};
+ghost use Rattle.machine.specs.Effect.{operationAt};
+ghost use Rattle.machine.specs.Run.{stepped, continued, run};
 ghost use Rattle.machine.specs.Calls.{outcomeOf, labelledOutcome};
+ghost use Rattle.machine.specs.Conditions.{leaks, labelsAfter};
 ghost use Rattle.plan.specs.Valid.{Valid};
 ghost use Rattle.execution.specs.Loops.{position};
+ghost use Rattle.labelled.specs.Turns.{Fitting, turnOf, leakReport, wentOn, pointerLogged, Markable};
 use execution::report;
 use execution::run_from;
+use integer::boolean::both;
 use memory::labels::mark;
-use memory::varnode::read;
-use operation::layout::varnode_at;
+use operation::layout::Settings;
+use operation::layout::opcode_at;
 use operation::report::Report;
+use operation::rules::accesses;
+use taint::becomes_secret;
 use taint::leaks_at;
-use taint::reads_secret;
 use taint::target_at;
 use validation::operation_count;
 
-pub fn run_labelled(
-    big: bool,
+// A run from operation `start`, with the first `from` words of the log written before.
+pub fn run_any(
+    labelled: bool,
+    settings: Settings,
     list: &[u64],
     unique: &mut [u8],
     register: &mut [u8],
@@ -29,44 +42,239 @@ pub fn run_labelled(
     ram_labels: &mut [u8],
     log: &mut [u64],
     start: usize,
+    from: usize,
     budget: u64,
 ) -> Report
-    requires { ⌜ Valid (lengthsOf (spaces (now unique) (now register) (now ram))) (now list) × (start ≤ operationCount (now list))
-        × (lengthsOf (spaces (now «unique_labels») (now «register_labels») (now «ram_labels»)) ≡ lengthsOf (spaces (now unique) (now register) (now ram))) ⌝ }
+    requires { ⌜ Valid (lengthsOf (spaces (now unique) (now register) (now ram))) (now list) × (start ≤ operationCount (now list)) × (from ≤ length (now log))
+        × Fitting labelled (spaces (now «unique_labels») (now «register_labels») (now «ram_labels»)) (spaces (now unique) (now register) (now ram)) ⌝ }
     ensures { λ r. ⌜ labelledOutcome r (spaces (now (unique .exit)) (now (register .exit)) (now (ram .exit)))
         (spaces (now («unique_labels» .exit)) (now («register_labels» .exit)) (now («ram_labels» .exit))) (now (log .exit))
-        ≡ outcomeOf (now (log .entry)) (run big (now (list .entry)) budget (position start 0 0 (now (log .entry)))
+        ≡ outcomeOf (now (log .entry)) (run (programOf settings (now (list .entry))) budget (position start from 0 (now (log .entry)))
         (spaces (now («unique_labels» .entry)) (now («register_labels» .entry)) (now («ram_labels» .entry)))
         (spaces (now (unique .entry)) (now (register .entry)) (now (ram .entry)))) ⌝ }
 {
-    let count = operation_count(list);
     let mut i = start;
-    let mut k: usize = 0;
+    let mut k = from;
     let mut executed: u64 = 0;
     loop {
-        if i == count {
-            return report(0, i, executed, k, 0);
-        }
-        if executed == budget {
-            return report(2, i, executed, k, 0);
-        }
-        if leaks_at(list, unique_labels, register_labels, ram_labels, i) {
-            return report(31, i, executed, k, 0);
-        }
-        let input1 = varnode_at(list, i, 2);
-        let pointer = read(big, unique, register, ram, input1);
-        let done = run_from(big, list, unique, register, ram, log, i, k, 1);
-        if done.executed == 0 {
-            return report(done.ending, i, executed, k, 0);
-        }
-        k = done.logged as usize;
-        executed = executed + 1;
-        if done.ending == 1 {
-            return report(1, i, executed, k, done.value);
-        }
-        let secret = reads_secret(list, unique_labels, register_labels, ram_labels, i, pointer);
-        let target = target_at(list, i, pointer);
-        mark(unique_labels, register_labels, ram_labels, target, secret);
+        let most = turn(labelled, budget - executed);
+        let done = step_at(
+            labelled,
+            settings,
+            list,
+            unique,
+            register,
+            ram,
+            unique_labels,
+            register_labels,
+            ram_labels,
+            log,
+            i,
+            k,
+            most,
+        );
         i = done.index as usize;
+        k = done.logged as usize;
+        executed = executed + done.executed;
+        if !both(done.ending == 2, executed < budget) {
+            return report(done.ending, i, executed, k, done.value);
+        }
     }
+}
+
+// One operation, at any index up to n and from any log word on.
+pub fn one_operation(
+    labelled: bool,
+    settings: Settings,
+    list: &[u64],
+    unique: &mut [u8],
+    register: &mut [u8],
+    ram: &mut [u8],
+    unique_labels: &mut [u8],
+    register_labels: &mut [u8],
+    ram_labels: &mut [u8],
+    log: &mut [u64],
+    i: usize,
+    k: usize,
+) -> Report
+    requires { ⌜ Valid (lengthsOf (spaces (now unique) (now register) (now ram))) (now list) × (i ≤ operationCount (now list)) × (k ≤ length (now log))
+        × Fitting labelled (spaces (now «unique_labels») (now «register_labels») (now «ram_labels»)) (spaces (now unique) (now register) (now ram)) ⌝ }
+    ensures { λ r. ⌜ labelledOutcome r (spaces (now (unique .exit)) (now (register .exit)) (now (ram .exit)))
+        (spaces (now («unique_labels» .exit)) (now («register_labels» .exit)) (now («ram_labels» .exit))) (now (log .exit))
+        ≡ outcomeOf (now (log .entry)) (continued (run (programOf settings (now (list .entry))) 0)
+        (stepped (programOf settings (now (list .entry))) (position i k 0 (now (log .entry)))
+        (spaces (now («unique_labels» .entry)) (now («register_labels» .entry)) (now («ram_labels» .entry)))
+        (spaces (now (unique .entry)) (now (register .entry)) (now (ram .entry))))) ⌝ }
+{
+    run_any(
+        labelled,
+        settings,
+        list,
+        unique,
+        register,
+        ram,
+        unique_labels,
+        register_labels,
+        ram_labels,
+        log,
+        i,
+        k,
+        1,
+    )
+}
+
+// The budget of a turn: one operation of what is left, or all of it.
+fn turn(labelled: bool, left: u64) -> u64
+    ensures { λ r. ⌜ r ≡ turnOf labelled left ⌝ }
+{
+    if both(labelled, 0 < left) { 1 } else { left }
+}
+
+// One turn, of at most one operation if it is labelled: LEAK, the operations, their labels.
+fn step_at(
+    labelled: bool,
+    settings: Settings,
+    list: &[u64],
+    unique: &mut [u8],
+    register: &mut [u8],
+    ram: &mut [u8],
+    unique_labels: &mut [u8],
+    register_labels: &mut [u8],
+    ram_labels: &mut [u8],
+    log: &mut [u64],
+    i: usize,
+    k: usize,
+    most: u64,
+) -> Report
+    requires { ⌜ Valid (lengthsOf (spaces (now unique) (now register) (now ram))) (now list) × (i ≤ operationCount (now list)) × (k ≤ length (now log))
+        × Fitting labelled (spaces (now «unique_labels») (now «register_labels») (now «ram_labels»)) (spaces (now unique) (now register) (now ram))
+        × (labelled ≡ true → most ≤ 1) ⌝ }
+    ensures { λ r. ⌜ labelledOutcome r (spaces (now (unique .exit)) (now (register .exit)) (now (ram .exit)))
+        (spaces (now («unique_labels» .exit)) (now («register_labels» .exit)) (now («ram_labels» .exit))) (now (log .exit))
+        ≡ outcomeOf (now (log .entry)) (run (programOf settings (now (list .entry))) most (position i k 0 (now (log .entry)))
+        (spaces (now («unique_labels» .entry)) (now («register_labels» .entry)) (now («ram_labels» .entry)))
+        (spaces (now (unique .entry)) (now (register .entry)) (now (ram .entry)))) ⌝ }
+{
+    let leak = leaks_within(
+        labelled,
+        list,
+        unique_labels,
+        register_labels,
+        ram_labels,
+        i,
+        most,
+    );
+    let done = run_from(
+        settings,
+        list,
+        unique,
+        register,
+        ram,
+        log,
+        i,
+        k,
+        unless(leak, most),
+    );
+    let went = went_on(labelled, done.executed, done.ending);
+    mark_after(
+        went,
+        list,
+        unique_labels,
+        register_labels,
+        ram_labels,
+        log,
+        i,
+        k,
+    );
+    answer(leak, done)
+}
+
+// LEAK at operation i, where a labelled turn has an operation to run.
+fn leaks_within(
+    labelled: bool,
+    list: &[u64],
+    unique: &[u8],
+    register: &[u8],
+    ram: &[u8],
+    i: usize,
+    most: u64,
+) -> bool
+    requires { ⌜ (labelled ≡ true → Valid (lengthsOf (spaces (now unique) (now register) (now ram))) (now list)) × (i ≤ operationCount (now list)) ⌝ }
+    ensures { λ r. ⌜ r ≡ labelled && not (eqb most 0) && ltb i (operationCount (now (list .entry)))
+        && leaks (spaces (now (unique .entry)) (now (register .entry)) (now (ram .entry))) (operationAt (now (list .entry)) i) ⌝ }
+{
+    let asked = both(both(labelled, most != 0), i < operation_count(list));
+    if asked {
+        return leaks_at(list, unique, register, ram, i);
+    }
+    false
+}
+
+// What a turn may execute: nothing at LEAK.
+fn unless(leak: bool, most: u64) -> u64
+    ensures { λ r. ⌜ r ≡ cond leak 0 most ⌝ }
+{
+    if leak { 0 } else { most }
+}
+
+// A labelled operation was executed, and the run did not exit by it.
+fn went_on(labelled: bool, executed: u64, ending: u64) -> bool
+    ensures { λ r. ⌜ r ≡ wentOn labelled executed ending ⌝ }
+{
+    both(labelled, both(executed != 0, ending != 1))
+}
+
+// The labels after operation i, if it went on. Its log word, at k, holds the pointer of LOAD and STORE.
+fn mark_after(
+    went: bool,
+    list: &[u64],
+    unique: &mut [u8],
+    register: &mut [u8],
+    ram: &mut [u8],
+    log: &[u64],
+    i: usize,
+    k: usize,
+)
+    requires { ⌜ (went ≡ true → Markable (spaces (now unique) (now register) (now ram)) (now list) (now log) i k) ⌝ }
+    ensures { λ _. ⌜ spaces (now (unique .exit)) (now (register .exit)) (now (ram .exit))
+        ≡ cond went
+        (labelsAfter (spaces (now (unique .entry)) (now (register .entry)) (now (ram .entry))) (operationAt (now (list .entry)) i)
+        (pointerLogged (operationAt (now (list .entry)) i) (now (log .entry)) k))
+        (spaces (now (unique .entry)) (now (register .entry)) (now (ram .entry))) ⌝ }
+{
+    if went {
+        let pointer = pointer_at(list, log, i, k);
+        let target = target_at(list, i, pointer);
+        if target.space != 0 {
+            let secret = becomes_secret(list, unique, register, ram, i, pointer);
+            mark(unique, register, ram, target, secret);
+        }
+    }
+}
+
+// The pointer of LOAD and STORE, by the log word at k; 0 for all others.
+fn pointer_at(list: &[u64], log: &[u64], i: usize, k: usize) -> u64
+    requires { ⌜ (wordsPerOperation * i + wordsPerOperation ≤ length (now list)) × (accesses (opcodeAt (now list) i) ≡ true → k < length (now log)) ⌝ }
+    ensures { λ r. ⌜ r ≡ pointerLogged (operationAt (now (list .entry)) i) (now (log .entry)) k ⌝ }
+{
+    if accesses(opcode_at(list, i)) {
+        return log[k] % 4294967296;
+    }
+    0
+}
+
+// What a turn reports: LEAK, or what the operations did.
+fn answer(leak: bool, done: Report) -> Report
+    ensures { λ r. ⌜ r ≡ cond leak (leakReport done) done ⌝ }
+{
+    if leak {
+        return Report {
+            ending: 31,
+            index: done.index,
+            executed: done.executed,
+            logged: done.logged,
+            value: 0,
+        };
+    }
+    done
 }

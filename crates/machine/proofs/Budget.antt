@@ -1,4 +1,4 @@
--- A run stopped by BUDGET and gone on with, from where it stopped: laws of the inner run. Assumes nothing.
+-- A run stopped by BUDGET and gone on with, from where it stopped: laws of the inner run.
 use Prim.Native.Nat.{ℕ, zero, suc, _+_, _<_}
 use native.Mathlib.Nat.{zero-add, suc-add, add-suc, add-zero}
 use native.Mathlib.Omega.{arith}
@@ -8,6 +8,7 @@ use mathlib.Core.List.{List, [], _++_, append-assoc, append-nil}
 use borrow.Author.Tests.{ltb-true}
 use lib.Dec.{ltb}
 use Rattle.operation.specs.Layout.{operationCount}
+use Rattle.machine.specs.Program.{Program}
 use Rattle.machine.specs.Memory.{Memory}
 use Rattle.machine.specs.Effect.{Operation, Kind, operationAt}
 use Rattle.machine.specs.Run.{Stop, Decision, Position, Ended, Stepped, endingOf, advanced, ended, carriedOut, performedAs, performed, stepped, continued, run}
@@ -26,16 +27,16 @@ stop-ending Stop.bounds h = omega arith
 stop-ending Stop.zeroDivisor h = omega arith
 stop-ending Stop.logFull h = omega arith
 
-carried-goes : (big : Bool) (k : Kind) (op : Operation) (at : Position) (labels m : Memory) (x : ℕ) (d : Decision) → Goes (carriedOut big k op at labels m x d)
+carried-goes : (program : Program) (k : Kind) (op : Operation) (at : Position) (labels m : Memory) (x : ℕ) (d : Decision) → Goes (carriedOut program k op at labels m x d)
 unfolding carriedOut ended
-carried-goes big k op at labels m x (Decision.stop e) = halts (stop-ending e)
-carried-goes big k op at labels m x (Decision.exit words d) = halts (λ (h : _≡_ {A = ℕ} 1 2). omega arith)
-carried-goes big k op at labels m x (Decision.next words i) = goes
+carried-goes program k op at labels m x (Decision.stop e) = halts (stop-ending e)
+carried-goes program k op at labels m x (Decision.exit words d) = halts (λ (h : _≡_ {A = ℕ} 1 2). omega arith)
+carried-goes program k op at labels m x (Decision.next words i) = goes
 
-stepped-goes : (big : Bool) (list : List ℕ) (at : Position) (labels m : Memory) → Goes (stepped big list at labels m)
+stepped-goes : (program : Program) (at : Position) (labels m : Memory) → Goes (stepped program at labels m)
 unfolding stepped performed performedAs ended
-stepped-goes big list at labels m =
-    either Goes (ltb (at .index) (operationCount list)) _ _ (carried-goes big _ (operationAt list (at .index)) at labels m _ _) (halts (λ (h : _≡_ {A = ℕ} 0 2). omega arith))
+stepped-goes program at labels m =
+    either Goes (ltb (at .index) (operationCount (program .list))) _ _ (carried-goes program _ (operationAt (program .list) (at .index)) at labels m _ _) (halts (λ (h : _≡_ {A = ℕ} 0 2). omega arith))
 
 -- ---- the budgets add up
 
@@ -46,12 +47,32 @@ unfolding continued
 continued-more f g h q (halts ne) e = absurd (ne e)
 continued-more f g h q (goes {at} {labels} {m}) e = q at labels m e
 
-run-more : (big : Bool) (list : List ℕ) (b c : ℕ) (at : Position) (labels m : Memory) → run big list b at labels m .ending ≡ 2
-    → run big list (b + c) at labels m ≡ run big list c (run big list b at labels m .position) (run big list b at labels m .labels) (run big list b at labels m .memory)
+pub run-more : (program : Program) (b c : ℕ) (at : Position) (labels m : Memory) → run program b at labels m .ending ≡ 2
+    → run program (b + c) at labels m ≡ run program c (run program b at labels m .position) (run program b at labels m .labels) (run program b at labels m .memory)
 unfolding run ended
-run-more big list zero c at labels m e = rw zero-add
-run-more big list (suc b) c at labels m e =
-    rw suc-add (continued-more _ _ (run big list c) (λ at′ l m′ e′. run-more big list b c at′ l m′ e′) (stepped-goes big list at labels m) e)
+run-more program zero c at labels m e = rw zero-add
+run-more program (suc b) c at labels m e =
+    rw suc-add (continued-more _ _ (run program c) (λ at′ l m′ e′. run-more program b c at′ l m′ e′) (stepped-goes program at labels m) e)
+
+-- a run that BUDGET did not stop is the same with a larger budget
+continued-done : (f g : Position → Memory → Memory → Ended)
+    → ((at : Position) (labels m : Memory) → (f at labels m .ending ≡ 2 → ⊥) → g at labels m ≡ f at labels m)
+    → {a : Stepped} → Goes a → (continued f a .ending ≡ 2 → ⊥) → continued g a ≡ continued f a
+unfolding continued
+continued-done f g q (halts ne) e = refl
+continued-done f g q (goes {at} {labels} {m}) e = q at labels m e
+
+pub run-done : (program : Program) (b c : ℕ) (at : Position) (labels m : Memory) → (run program b at labels m .ending ≡ 2 → ⊥)
+    → run program (b + c) at labels m ≡ run program b at labels m
+unfolding run ended stepped continued
+run-done program zero c at labels m e = rw zero-add (end c (ltb (at .index) (operationCount (program .list))) refl)
+  where
+    end : (c : ℕ) (t : Bool) → ltb (at .index) (operationCount (program .list)) ≡ t → run program c at labels m ≡ run program 0 at labels m
+    end zero t k = refl
+    end (suc c) true k = absurd (e (rw k refl))
+    end (suc c) false k = rw k refl
+run-done program (suc b) c at labels m e =
+    rw suc-add (continued-done _ _ (λ at′ l m′ e′. run-done program b c at′ l m′ e′) (stepped-goes program at labels m) e)
 
 -- ---- a run stopped by BUDGET has an operation before it
 
@@ -62,16 +83,16 @@ unfolding continued
 continued-index n f q (halts ne) e = absurd (ne e)
 continued-index n f q (goes {at} {labels} {m}) e = q at labels m e
 
-pub run-index : (big : Bool) (list : List ℕ) (b : ℕ) (at : Position) (labels m : Memory) → run big list b at labels m .ending ≡ 2
-    → run big list b at labels m .position .index < operationCount list
+pub run-index : (program : Program) (b : ℕ) (at : Position) (labels m : Memory) → run program b at labels m .ending ≡ 2
+    → run program b at labels m .position .index < operationCount (program .list)
 unfolding run ended
-run-index big list zero at labels m e = by (ltb (at .index) (operationCount list)) refl e
+run-index program zero at labels m e = by (ltb (at .index) (operationCount (program .list))) refl e
   where
-    by : (t : Bool) → ltb (at .index) (operationCount list) ≡ t → _≡_ {A = ℕ} (cond t 2 0) 2 → at .index < operationCount list
-    by true t z = ltb-true (at .index) (operationCount list) t
+    by : (t : Bool) → ltb (at .index) (operationCount (program .list)) ≡ t → _≡_ {A = ℕ} (cond t 2 0) 2 → at .index < operationCount (program .list)
+    by true t z = ltb-true (at .index) (operationCount (program .list)) t
     by false t z = absurd (let w : _≡_ {A = ℕ} 0 2 = z in omega (arith, w))
-run-index big list (suc b) at labels m e =
-    continued-index (operationCount list) _ (λ at′ l m′ e′. run-index big list b at′ l m′ e′) (stepped-goes big list at labels m) e
+run-index program (suc b) at labels m e =
+    continued-index (operationCount (program .list)) _ (λ at′ l m′ e′. run-index program b at′ l m′ e′) (stepped-goes program at labels m) e
 
 -- ---- the count and the log are carried along
 
@@ -90,18 +111,18 @@ advanced-later : (c : ℕ) (words : List ℕ) (at : Position) (i : ℕ) (vs : Li
 unfolding advanced later
 advanced-later c words at i vs = rw (add-suc, append-assoc)
 
-module _ (c : ℕ) (words : List ℕ) (big : Bool) (list : List ℕ) where
+module _ (c : ℕ) (words : List ℕ) (program : Program) where
   carried-later : (k : Kind) (op : Operation) (at : Position) (labels m : Memory) (x : ℕ) (d : Decision)
-      → Later c words (carriedOut big k op (later c words at) labels m x d) (carriedOut big k op at labels m x d)
+      → Later c words (carriedOut program k op (later c words at) labels m x d) (carriedOut program k op at labels m x d)
   unfolding carriedOut ended laterEnded later
   carried-later k op at labels m x (Decision.stop e) = halts
   carried-later k op at labels m x (Decision.exit vs d) = rw (advanced-later c words at (at .index) vs) halts
   carried-later k op at labels m x (Decision.next vs i) = rw (advanced-later c words at i vs) goes
 
-  stepped-later : (at : Position) (labels m : Memory) → Later c words (stepped big list (later c words at) labels m) (stepped big list at labels m)
+  stepped-later : (at : Position) (labels m : Memory) → Later c words (stepped program (later c words at) labels m) (stepped program at labels m)
   unfolding stepped performed performedAs later laterEnded ended
   stepped-later at labels m =
-      either₂ (Later c words) (ltb (at .index) (operationCount list)) _ _ _ _ (carried-later _ (operationAt list (at .index)) at labels m _ _) halts
+      either₂ (Later c words) (ltb (at .index) (operationCount (program .list))) _ _ _ _ (carried-later _ (operationAt (program .list) (at .index)) at labels m _ _) halts
 
   continued-later : (f : Position → Memory → Memory → Ended) → ((at : Position) (labels m : Memory) → f (later c words at) labels m ≡ laterEnded c words (f at labels m))
       → {a b : Stepped} → Later c words a b → continued f a ≡ laterEnded c words (continued f b)
@@ -109,7 +130,7 @@ module _ (c : ℕ) (words : List ℕ) (big : Bool) (list : List ℕ) where
   continued-later f h halts = refl
   continued-later f h (goes {at} {labels} {m}) = h at labels m
 
-  run-later : (b : ℕ) (at : Position) (labels m : Memory) → run big list b (later c words at) labels m ≡ laterEnded c words (run big list b at labels m)
+  pub run-later : (b : ℕ) (at : Position) (labels m : Memory) → run program b (later c words at) labels m ≡ laterEnded c words (run program b at labels m)
   unfolding run laterEnded ended later
   run-later zero at labels m = refl
   run-later (suc b) at labels m = continued-later _ (λ at′ l m′. run-later b at′ l m′) (stepped-later at labels m)
@@ -117,17 +138,17 @@ module _ (c : ℕ) (words : List ℕ) (big : Bool) (list : List ℕ) where
 unfoldable pub fresh : Position → Position
 fresh at = record { index = at .index; room = at .room; executed = 0; log = [] }
 
-fresh-later : (at : Position) → later (at .executed) (at .log) (fresh at) ≡ at
+pub fresh-later : (at : Position) → later (at .executed) (at .log) (fresh at) ≡ at
 unfolding later fresh
 fresh-later at = rw (add-zero, append-nil)
 
 -- two runs, the second begun anew, against one run
-pub run-resumed : (big : Bool) (list : List ℕ) (b c : ℕ) (at : Position) (labels m : Memory) → run big list b at labels m .ending ≡ 2
-    → run big list (b + c) at labels m
-    ≡ laterEnded (run big list b at labels m .position .executed) (run big list b at labels m .position .log)
-    (run big list c (fresh (run big list b at labels m .position)) (run big list b at labels m .labels) (run big list b at labels m .memory))
-run-resumed big list b c at labels m e =
-    let r = run big list b at labels m in
-    run-more big list b c at labels m e
-    ∙ ap (λ (p : Position). run big list c p (r .labels) (r .memory)) (sym (fresh-later (r .position)))
-    ∙ run-later (r .position .executed) (r .position .log) big list c (fresh (r .position)) (r .labels) (r .memory)
+pub run-resumed : (program : Program) (b c : ℕ) (at : Position) (labels m : Memory) → run program b at labels m .ending ≡ 2
+    → run program (b + c) at labels m
+    ≡ laterEnded (run program b at labels m .position .executed) (run program b at labels m .position .log)
+    (run program c (fresh (run program b at labels m .position)) (run program b at labels m .labels) (run program b at labels m .memory))
+run-resumed program b c at labels m e =
+    let r = run program b at labels m in
+    run-more program b c at labels m e
+    ∙ ap (λ (p : Position). run program c p (r .labels) (r .memory)) (sym (fresh-later (r .position)))
+    ∙ run-later (r .position .executed) (r .position .log) program c (fresh (r .position)) (r .labels) (r .memory)

@@ -1,4 +1,4 @@
--- The definitions meet the exact conditions. Assumes nothing.
+-- The definitions meet the exact conditions.
 use Prim.Native.Nat.{ℕ, zero, suc, _+_, _*_, _-_, _%_, _^_, _<_, _≤_}
 use native.Mathlib.Omega.{arith}
 use mathlib.Core.Path.{_≡_, refl, sym, ap, _∙_}
@@ -13,11 +13,17 @@ use Rattle.arithmetic.specs.Result.{lookup, result}
 use Rattle.integer.specs.Operations.{flag, piece, subpiece, intZext}
 use Rattle.arithmetic.specs.Operands.{among, divides}
 use Rattle.integer.proofs.Booleans.{or-false, both, neither}
+use Rattle.operation.specs.declared.layout.Settings.{Settings}
 use Rattle.operation.specs.declared.layout.Varnode.{Varnode}
+use Rattle.machine.specs.Program.{Program, bigEndian}
 use Rattle.machine.specs.Memory.{Memory, OfBytes, lengthsOf, spaceOf, withSpace, bytesAt, written, valueAt}
-use Rattle.machine.specs.Effect.{Operation, operationAt, Kind, kindOf, moves, dropped, computed, absent, anySecret, secret, guarded, valuesOf, pointed, sources, target, bytesWritten, labelsWritten}
-use Rattle.machine.specs.Run.{Stop, Decision, Position, Stepped, indexOf, goTo, logWord, logging, access, checked, decided, advanced, ended, endingOf, guardedValue, carriedOut, performedAs, performed, stepped, continued, run}
-use Rattle.machine.specs.Conditions.{hasSecret, leaks, pointedBytes, pastItsSpace, taken, branchTaken, outOfBounds, dividesByZero, writesLog, logWordOf, exits, destination, nextIndex, destinationBytes, becomesSecret, valueWritten, positionAfter, told, toldWithin, Words, ExactConditions}
+use Rattle.machine.specs.Effect.{Operation, operationAt, Kind, kindOf, moves, dropped, computed, absent, anySecret, secret, guarded, tested, valuesOf, pointed}
+use Rattle.machine.specs.Effect.{sources, target, bytesWritten, labelsWritten}
+use Rattle.machine.specs.Run.{Stop, Decision, Position, Stepped, indexOf, goTo, logWord, logging, access, checked, decided, advanced, ended, endingOf, testedValue}
+use Rattle.machine.specs.Run.{carriedOut, performedAs, performed, stepped, continued, run}
+use Rattle.machine.specs.Conditions.{hasSecret, leaks, pastItsSpace, taken, branchTaken, outOfBounds, dividesByZero, writesLog, lowPart, logWordOf, exits}
+use Rattle.machine.specs.Conditions.{destination, nextIndex, destinationBytes, becomesSecret, valueComputed, valueMoved, valueWritten, positionAfter, toldWith}
+use Rattle.machine.specs.Conditions.{labelsAfter, told, toldWithin, Words, ExactConditions}
 use Rattle.operation.specs.Rules.{accesses, namesSpace, isDestination, breaksPlace, branches, jumps, relativeTarget}
 use Rattle.operation.specs.Layout.{wordsPerOperation, operationCount, wordAt, offsetAt, describedBy, varnodeAt}
 use Rattle.operation.proofs.Targets.{wrapping}
@@ -73,19 +79,19 @@ two-secret labels u v = rw (or-false, has-secret labels u, has-secret labels v) 
 -- ---- the bytes written
 
 -- a varnode's value is below 256^size
-value-fits : (big : Bool) (m : Memory) (v : Varnode) → OfBytes m → (v .space ≡ 1 → v .offset < 256 ^ v .size) → valueAt big m v < 256 ^ v .size
+value-fits : (settings : Settings) (m : Memory) (v : Varnode) → OfBytes m → (v .space ≡ 1 → v .offset < 256 ^ v .size) → valueAt settings m v < 256 ^ v .size
 unfolding valueAt bytesAt
-value-fits big m v b h = by (eqb (v .space) 1) refl
+value-fits settings m v b h = by (eqb (v .space) 1) refl
   where
-    by : (t : Bool) → eqb (v .space) 1 ≡ t → cond t (v .offset) (valueOf big (bytesAt m v)) < 256 ^ v .size
+    by : (t : Bool) → eqb (v .space) 1 ≡ t → cond t (v .offset) (valueOf (bigEndian settings) (bytesAt m v)) < 256 ^ v .size
     by true e = h (eqb-true (v .space) 1 e)
     by false e =
         let l : length (bytesAt m v) ≡ v .size = part-length (spaceOf m (v .space)) (v .offset) (v .size) in
-        rw l at (value-lt big (bytesAt m v) (part-bytes (spaceOf m (v .space)) (v .offset) (v .size) (b (v .space))))
+        rw l at (value-lt (bigEndian settings) (bytesAt m v) (part-bytes (spaceOf m (v .space)) (v .offset) (v .size) (b (v .space))))
 
-constant-value : (big : Bool) (m : Memory) (v : Varnode) → v .space ≡ 1 → valueAt big m v ≡ v .offset
+constant-value : (settings : Settings) (m : Memory) (v : Varnode) → v .space ≡ 1 → valueAt settings m v ≡ v .offset
 unfolding valueAt
-constant-value big m v e = rw e refl
+constant-value settings m v e = rw e refl
 
 or-commutes : (s t : Bool) → s || t ≡ t || s
 or-commutes true true = refl
@@ -94,11 +100,11 @@ or-commutes false true = refl
 or-commutes false false = refl
 
 -- the other operations, but for PIECE, SUBPIECE and INT_ZEXT
-calculated : (big : Bool) (op : Operation) (m : Memory) (n : ℕ) → moves op ≡ false
-    → bytesWritten big op n (op .input0 ∷ op .input1 ∷ []) m
-    ≡ bytesOf big n (result (op .opcode) (op .output .size) (op .input0 .size) (op .input1 .size) (valueAt big m (op .input0)) (valueAt big m (op .input1)))
+calculated : (settings : Settings) (op : Operation) (m : Memory) (n : ℕ) → moves op ≡ false
+    → bytesWritten settings op n (op .input0 ∷ op .input1 ∷ []) m
+    ≡ bytesOf (bigEndian settings) n (result (op .opcode) (op .output .size) (op .input0 .size) (op .input1 .size) (valueAt settings m (op .input0)) (valueAt settings m (op .input1)))
 unfolding bytesWritten computed valuesOf
-calculated big op m n e = rw e refl
+calculated settings op m n e = rw e refl
 
 -- an opcode is a number k, or it is not
 pub when : {A : Type 0} (n k : ℕ) → (n ≡ k → A) → (eqb n k ≡ false → A) → A
@@ -250,17 +256,17 @@ pub data Destination (i : ℕ) (v : Varnode) : Type 0 where
   inRam : eqb (v .space) 1 ≡ false → eqb (v .space) 4 ≡ true → Destination i v
 
 -- what is used of a well-formed operation at index i
-pub record Formed (big : Bool) (m : Memory) (i : ℕ) (op : Operation) : Type 0 where
+pub record Formed (settings : Settings) (m : Memory) (i : ℕ) (op : Operation) : Type 0 where
   pub noOutput : hasPlace (op .opcode) 0 ≡ false → op .output ≡ absent
   pub noInput1 : hasPlace (op .opcode) 2 ≡ false → op .input1 ≡ absent
   pub named : accesses (op .opcode) ≡ true → namesSpace (op .input0) ≡ true
   pub constant1 : op .opcode ≡ 11 → op .input1 .space ≡ 1
   pub branchTo : branches (op .opcode) ≡ true → Destination i (op .input0)
-  pub fits0 : branches (op .opcode) ≡ false → valueAt big m (op .input0) < 256 ^ op .input0 .size
-  pub fits1 : valueAt big m (op .input1) < 256 ^ op .input1 .size
-  pub fits2 : valueAt big m (op .input2) < 256 ^ op .input2 .size
+  pub fits0 : branches (op .opcode) ≡ false → valueAt settings m (op .input0) < 256 ^ op .input0 .size
+  pub fits1 : valueAt settings m (op .input1) < 256 ^ op .input1 .size
+  pub fits2 : valueAt settings m (op .input2) < 256 ^ op .input2 .size
 
-module _ (big : Bool) (op : Operation) (at : Position) (labels m : Memory) where
+module _ (program : Program) (op : Operation) (at : Position) (labels m : Memory) where
   toldBy : (leak outside byZero due leaves : Bool) (word to next : ℕ) → Varnode → (hidden : Bool) (value : ℕ) → Stepped
   toldBy leak outside byZero due leaves word to next place hidden value =
       cond leak (Stepped.halted (ended 31 0 at labels m))
@@ -270,93 +276,100 @@ module _ (big : Bool) (op : Operation) (at : Position) (labels m : Memory) where
       (cond leaves (Stepped.halted (ended 1 to (advanced at (at .index) (cond due (word ∷ []) [])) labels m))
       (Stepped.going (advanced at next (cond due (word ∷ []) []))
       (written labels place (replicate (place .size) (flag hidden)))
-      (written m place (bytesOf big (place .size) value)))))))
+      (written m place (bytesOf (bigEndian (program .settings)) (place .size) value)))))))
 
-  told-by : told big op at labels m
-      ≡ toldBy (leaks labels op) (outOfBounds big m op) (dividesByZero big m op) (writesLog op) (exits big m op) (logWordOf big m op (at .index))
-      (destination big m op) (nextIndex big m op (at .index)) (destinationBytes big m op) (becomesSecret big labels m op) (valueWritten big m op)
-  unfolding told toldBy positionAfter
+  -- the values of input0 and input1
+  abbrev a : ℕ
+  a = valueAt (program .settings) m (op .input0)
+
+  abbrev b : ℕ
+  b = valueAt (program .settings) m (op .input1)
+
+  told-by : told program op at labels m
+      ≡ toldBy (leaks labels op) (outOfBounds m op b) (dividesByZero op b) (writesLog op) (exits op b) (logWordOf op (at .index) b)
+      (destination op a) (nextIndex op (at .index) b) (destinationBytes op b) (becomesSecret labels op b) (valueWritten program m op a b)
+  unfolding told toldWith labelsAfter toldBy positionAfter
   told-by = refl
 
   -- what a kind writes, with x as the value of what must be public, is what is told
   record Writes (k : Kind) (x : ℕ) (place : Varnode) (hidden : Bool) (value : ℕ) : Type 0 where
     labelled : written labels (target k op x) (labelsWritten (target k op x .size) (sources k op x) labels)
         ≡ written labels place (replicate (place .size) (flag hidden))
-    stored : written m (target k op x) (bytesWritten big op (target k op x .size) (sources k op x) m)
-        ≡ written m place (bytesOf big (place .size) value)
+    stored : written m (target k op x) (bytesWritten (program .settings) op (target k op x .size) (sources k op x) m)
+        ≡ written m place (bytesOf (bigEndian (program .settings)) (place .size) value)
 
   goes : (k : Kind) (x i : ℕ) (words : List ℕ) {place : Varnode} {hidden : Bool} {value : ℕ} → Writes k x place hidden value
-      → carriedOut big k op at labels m x (Decision.next words i)
-      ≡ Stepped.going (advanced at i words) (written labels place (replicate (place .size) (flag hidden))) (written m place (bytesOf big (place .size) value))
+      → carriedOut program k op at labels m x (Decision.next words i)
+      ≡ Stepped.going (advanced at i words) (written labels place (replicate (place .size) (flag hidden))) (written m place (bytesOf (bigEndian (program .settings)) (place .size) value))
   unfolding carriedOut
   goes k x i words w = rw (w .labelled, w .stored) refl
 
   writes : (k : Kind) (x : ℕ) (place : Varnode) (hidden : Bool) (value : ℕ) → target k op x ≡ place → secret labels (sources k op x) ≡ hidden
-      → bytesWritten big op (place .size) (sources k op x) m ≡ bytesOf big (place .size) value → Writes k x place hidden value
+      → bytesWritten (program .settings) op (place .size) (sources k op x) m ≡ bytesOf (bigEndian (program .settings)) (place .size) value → Writes k x place hidden value
   unfolding labelsWritten
   writes k x place hidden value e f g = record { labelled = rw (e, f) refl; stored = rw (e, g) refl }
 
   module _ (word to next : ℕ) (place : Varnode) (hidden : Bool) (value : ℕ) where
     -- a kind with nothing that must be public, and nothing to check
     unchecked : (k : Kind) → guarded k op ≡ [] → ((i extent room x : ℕ) → checked k op i extent room x ≡ Decision.next [] (suc i))
-        → next ≡ suc (at .index) → Writes k 0 place hidden value
-        → performedAs big k op at labels m ≡ toldBy false false false false false word to next place hidden value
-    unfolding performedAs decided guardedValue valuesOf secret toldBy
-    unchecked k e f n w = rw (e, f, n) (goes k 0 (suc (at .index)) [] w)
+        → next ≡ suc (at .index) → Writes k (testedValue program k op m) place hidden value
+        → performedAs program k op at labels m ≡ toldBy false false false false false word to next place hidden value
+    unfolding performedAs decided testedValue tested secret toldBy
+    unchecked k e f n w = rw (e, f, n) (goes k _ (suc (at .index)) [] w)
 
-    jumped : to ≡ valueAt big m (op .input0)
-        → performedAs big Kind.jump op at labels m ≡ toldBy (hasSecret labels (op .input0)) false false false true word to next place hidden value
-    unfolding performedAs guarded guardedValue valuesOf toldBy carriedOut decided checked endingOf
+    jumped : to ≡ a
+        → performedAs program Kind.jump op at labels m ≡ toldBy (hasSecret labels (op .input0)) false false false true word to next place hidden value
+    unfolding performedAs guarded testedValue tested toldBy carriedOut decided checked endingOf
     jumped e = rw (one-secret labels (op .input0), ← e) (by (hasSecret labels (op .input0)))
       where
-        by : (t : Bool) → carriedOut big Kind.jump op at labels m to (cond t (Decision.stop Stop.leak) (Decision.exit [] to))
+        by : (t : Bool) → carriedOut program Kind.jump op at labels m to (cond t (Decision.stop Stop.leak) (Decision.exit [] to))
             ≡ toldBy t false false false true word to next place hidden value
         by true = refl
         by false = refl
 
-    divided : next ≡ suc (at .index) → (hasSecret labels (op .input1) ≡ false → Writes Kind.divide (valueAt big m (op .input1)) place hidden value)
-        → performedAs big Kind.divide op at labels m
-        ≡ toldBy (hasSecret labels (op .input1)) false (eqb (valueAt big m (op .input1)) 0) false false word to next place hidden value
-    unfolding performedAs guarded guardedValue valuesOf toldBy carriedOut decided checked endingOf
-    divided n w = rw (one-secret labels (op .input1), n) (by (hasSecret labels (op .input1)) refl (eqb (valueAt big m (op .input1)) 0))
+    divided : next ≡ suc (at .index) → (hasSecret labels (op .input1) ≡ false → Writes Kind.divide (b) place hidden value)
+        → performedAs program Kind.divide op at labels m
+        ≡ toldBy (hasSecret labels (op .input1)) false (eqb (b) 0) false false word to next place hidden value
+    unfolding performedAs guarded testedValue tested toldBy carriedOut decided checked endingOf
+    divided n w = rw (one-secret labels (op .input1), n) (by (hasSecret labels (op .input1)) refl (eqb (b) 0))
       where
         by : (t : Bool) → hasSecret labels (op .input1) ≡ t → (z : Bool)
-            → carriedOut big Kind.divide op at labels m (valueAt big m (op .input1))
+            → carriedOut program Kind.divide op at labels m (b)
             (cond t (Decision.stop Stop.leak) (cond z (Decision.stop Stop.zeroDivisor) (Decision.next [] (suc (at .index)))))
             ≡ toldBy t false z false false word to (suc (at .index)) place hidden value
         by true e z = refl
         by false e true = refl
-        by false e false = goes Kind.divide (valueAt big m (op .input1)) (suc (at .index)) [] (w e)
+        by false e false = goes Kind.divide (b) (suc (at .index)) [] (w e)
 
     -- LOAD and STORE
-    accessed : (k : Kind) (size : ℕ) → guarded k op ≡ op .input1 ∷ []
+    accessed : (k : Kind) (size : ℕ) → guarded k op ≡ op .input1 ∷ [] → tested k op ≡ op .input1
         → ((i extent room x : ℕ) → checked k op i extent room x ≡ access i extent room x size)
-        → next ≡ suc (at .index) → word ≡ logWord (at .index) (valueAt big m (op .input1))
-        → (hasSecret labels (op .input1) ≡ false → Writes k (valueAt big m (op .input1)) place hidden value)
-        → performedAs big k op at labels m
-        ≡ toldBy (hasSecret labels (op .input1)) (not (leb (valueAt big m (op .input1) + size) (length (spaceOf m (op .input0 .offset))))) false true false
+        → next ≡ suc (at .index) → word ≡ logWord (at .index) (b)
+        → (hasSecret labels (op .input1) ≡ false → Writes k (b) place hidden value)
+        → performedAs program k op at labels m
+        ≡ toldBy (hasSecret labels (op .input1)) (not (leb (b + size) (length (spaceOf m (op .input0 .offset))))) false true false
         word to next place hidden value
-    unfolding performedAs guardedValue valuesOf toldBy carriedOut decided access logging endingOf
-    accessed k size g c n l w =
-        rw (g, c, one-secret labels (op .input1), n, l)
-        (by (hasSecret labels (op .input1)) refl (leb (valueAt big m (op .input1) + size) (length (spaceOf m (op .input0 .offset)))) (eqb (at .room) 0))
+    unfolding performedAs testedValue tested toldBy carriedOut decided access logging endingOf
+    accessed k size g u c n l w =
+        rw (g, u, c, one-secret labels (op .input1), n, l)
+        (by (hasSecret labels (op .input1)) refl (leb (b + size) (length (spaceOf m (op .input0 .offset)))) (eqb (at .room) 0))
       where
         written-word : ℕ
-        written-word = logWord (at .index) (valueAt big m (op .input1))
+        written-word = logWord (at .index) (b)
 
         by : (t : Bool) → hasSecret labels (op .input1) ≡ t → (u z : Bool)
-            → carriedOut big k op at labels m (valueAt big m (op .input1))
+            → carriedOut program k op at labels m (b)
             (cond t (Decision.stop Stop.leak) (cond u (cond z (Decision.stop Stop.logFull) (Decision.next (written-word ∷ []) (suc (at .index)))) (Decision.stop Stop.bounds)))
             ≡ cond t (Stepped.halted (ended 31 0 at labels m))
             (cond (not u) (Stepped.halted (ended 32 0 at labels m))
             (cond z (Stepped.halted (ended 34 0 at labels m))
             (Stepped.going (advanced at (suc (at .index)) (written-word ∷ []))
             (written labels place (replicate (place .size) (flag hidden)))
-            (written m place (bytesOf big (place .size) value)))))
+            (written m place (bytesOf (bigEndian (program .settings)) (place .size) value)))))
         by true e u z = refl
         by false e false z = refl
         by false e true true = refl
-        by false e true false = goes k (valueAt big m (op .input1)) (suc (at .index)) (written-word ∷ []) (w e)
+        by false e true false = goes k (b) (suc (at .index)) (written-word ∷ []) (w e)
 
     -- BRANCH, CALL and CBRANCH write nothing
     module _ (k : Kind) (x : ℕ) (nothing : target k op x ≡ absent) (e : place ≡ absent) where
@@ -367,31 +380,31 @@ module _ (big : Bool) (op : Operation) (at : Position) (labels m : Memory) where
       }
 
       gone : (words : List ℕ) → Destination (at .index) (op .input0)
-          → carriedOut big k op at labels m x (goTo (at .index) (op .input0) words)
+          → carriedOut program k op at labels m x (goTo (at .index) (op .input0) words)
           ≡ cond (eqb (op .input0 .space) 4) (Stepped.halted (ended 1 (op .input0 .offset) (advanced at (at .index) words) labels m))
           (Stepped.going (advanced at (cond (eqb (op .input0 .space) 1) ((at .index + op .input0 .offset) % 2 ^ 64) (suc (at .index))) words)
-          (written labels place (replicate (place .size) (flag hidden))) (written m place (bytesOf big (place .size) value)))
+          (written labels place (replicate (place .size) (flag hidden))) (written m place (bytesOf (bigEndian (program .settings)) (place .size) value)))
       unfolding goTo carriedOut
       gone words (inList s f l) = rw (s, f, l) (goes k x ((at .index + op .input0 .offset) % 2 ^ 64) words writes-nothing)
       gone words (inRam s f) = rw (s, f) refl
 
     branched : to ≡ op .input0 .offset → next ≡ cond (eqb (op .input0 .space) 1) ((at .index + op .input0 .offset) % 2 ^ 64) (suc (at .index))
         → place ≡ absent → Destination (at .index) (op .input0)
-        → performedAs big Kind.branch op at labels m ≡ toldBy false false false false (eqb (op .input0 .space) 4) word to next place hidden value
-    unfolding performedAs guarded guardedValue valuesOf secret decided checked toldBy target
-    branched t n e d = rw (t, n) (gone Kind.branch 0 refl e [] d)
+        → performedAs program Kind.branch op at labels m ≡ toldBy false false false false (eqb (op .input0 .space) 4) word to next place hidden value
+    unfolding performedAs guarded testedValue tested secret decided checked toldBy target
+    branched t n e d = rw (t, n) (gone Kind.branch _ refl e [] d)
 
-    cbranched : word ≡ logWord (at .index) (flag (not (eqb (valueAt big m (op .input1)) 0))) → to ≡ op .input0 .offset
-        → next ≡ cond (not (eqb (valueAt big m (op .input1)) 0) && eqb (op .input0 .space) 1) ((at .index + op .input0 .offset) % 2 ^ 64) (suc (at .index))
+    cbranched : word ≡ logWord (at .index) (flag (not (eqb (b) 0))) → to ≡ op .input0 .offset
+        → next ≡ cond (not (eqb (b) 0) && eqb (op .input0 .space) 1) ((at .index + op .input0 .offset) % 2 ^ 64) (suc (at .index))
         → place ≡ absent → Destination (at .index) (op .input0)
-        → performedAs big Kind.cbranch op at labels m
-        ≡ toldBy (hasSecret labels (op .input1)) false false true (not (eqb (valueAt big m (op .input1)) 0) && eqb (op .input0 .space) 4) word to next place hidden value
-    unfolding performedAs guarded guardedValue valuesOf decided checked carriedOut toldBy target logging flag endingOf
+        → performedAs program Kind.cbranch op at labels m
+        ≡ toldBy (hasSecret labels (op .input1)) false false true (not (eqb (b) 0) && eqb (op .input0 .space) 4) word to next place hidden value
+    unfolding performedAs guarded testedValue tested decided checked carriedOut toldBy target logging flag endingOf
     cbranched l t n e d =
-        rw (one-secret labels (op .input1), l, t, n) (by (hasSecret labels (op .input1)) (eqb (valueAt big m (op .input1)) 0) (eqb (at .room) 0))
+        rw (one-secret labels (op .input1), l, t, n) (by (hasSecret labels (op .input1)) (eqb (b) 0) (eqb (at .room) 0))
       where
         by : (t z f : Bool)
-            → carriedOut big Kind.cbranch op at labels m (valueAt big m (op .input1))
+            → carriedOut program Kind.cbranch op at labels m (b)
             (cond t (Decision.stop Stop.leak)
             (cond z (cond f (Decision.stop Stop.logFull) (Decision.next (logWord (at .index) 0 ∷ []) (suc (at .index))))
             (cond f (Decision.stop Stop.logFull) (goTo (at .index) (op .input0) (logWord (at .index) 1 ∷ [])))))
@@ -402,85 +415,88 @@ module _ (big : Bool) (op : Operation) (at : Position) (labels m : Memory) where
             (Stepped.going
             (advanced at (cond (not z && eqb (op .input0 .space) 1) ((at .index + op .input0 .offset) % 2 ^ 64) (suc (at .index))) (logWord (at .index) (flag (not z)) ∷ []))
             (written labels place (replicate (place .size) (flag hidden)))
-            (written m place (bytesOf big (place .size) value)))))
+            (written m place (bytesOf (bigEndian (program .settings)) (place .size) value)))))
         by true z f = refl
         by false true true = refl
         by false false true = refl
         by false true false =
-            goes Kind.cbranch (valueAt big m (op .input1)) (suc (at .index)) (logWord (at .index) 0 ∷ [])
-            (writes-nothing Kind.cbranch (valueAt big m (op .input1)) refl e)
-        by false false false = gone Kind.cbranch (valueAt big m (op .input1)) refl e (logWord (at .index) 1 ∷ []) d
+            goes Kind.cbranch (b) (suc (at .index)) (logWord (at .index) 0 ∷ [])
+            (writes-nothing Kind.cbranch (b) refl e)
+        by false false false = gone Kind.cbranch (b) refl e (logWord (at .index) 1 ∷ []) d
 
   toldAs : Class → Stepped
   toldAs c =
       let s0 : Bool = hasSecret labels (op .input0) in
       let s1 : Bool = hasSecret labels (op .input1) in
-      let x : ℕ = valueAt big m (op .input1) in
       toldBy
       ((c .pointer && s1) || (c .condition && s1) || (c .indirect && s0) || (c .divisor && s1))
-      ((c .loads && pastItsSpace m (pointedBytes big m op (op .output .size))) || (c .stores && pastItsSpace m (pointedBytes big m op (op .input2 .size))))
-      (c .divisor && eqb x 0)
+      ((c .loads && pastItsSpace m (pointed op b (op .output .size))) || (c .stores && pastItsSpace m (pointed op b (op .input2 .size))))
+      (c .divisor && eqb b 0)
       (c .logs)
-      (((c .direct || (c .condition && not (eqb x 0))) && eqb (op .input0 .space) 4) || c .indirect)
-      (at .index * 2 ^ 32 + cond (c .condition) (flag (c .condition && not (eqb x 0))) x)
-      (cond (c .indirect) (valueAt big m (op .input0)) (op .input0 .offset))
-      (cond ((c .direct || (c .condition && not (eqb x 0))) && eqb (op .input0 .space) 1) ((at .index + op .input0 .offset) % 2 ^ 64) (suc (at .index)))
-      (cond (c .stores) (pointedBytes big m op (op .input2 .size)) (op .output))
-      (cond (c .stores) (hasSecret labels (op .input2)) (s0 || s1 || (c .loads && hasSecret labels (pointedBytes big m op (op .output .size)))))
-      (valueWritten big m op)
+      (((c .direct || (c .condition && not (eqb b 0))) && eqb (op .input0 .space) 4) || c .indirect)
+      (at .index * 2 ^ 32 + cond (c .condition) (flag (c .condition && not (eqb b 0))) b)
+      (cond (c .indirect) (a) (op .input0 .offset))
+      (cond ((c .direct || (c .condition && not (eqb b 0))) && eqb (op .input0 .space) 1) ((at .index + op .input0 .offset) % 2 ^ 64) (suc (at .index)))
+      (cond (c .stores) (pointed op b (op .input2 .size)) (op .output))
+      (cond (c .stores) (hasSecret labels (op .input2)) (s0 || s1 || (c .loads && hasSecret labels (pointed op b (op .output .size)))))
+      (valueWritten program m op a b)
 
-  told-as : (c : Class) → classOf (op .opcode) ≡ c → performedAs big (c .kind) op at labels m ≡ toldAs c → performed big op at labels m ≡ told big op at labels m
-  unfolding classOf toldAs performed leaks outOfBounds dividesByZero writesLog exits taken branchTaken logWordOf destination nextIndex destinationBytes becomesSecret
+  told-as : (c : Class) → classOf (op .opcode) ≡ c → performedAs program (c .kind) op at labels m ≡ toldAs c → performed program op at labels m ≡ told program op at labels m
+  unfolding classOf toldAs performed leaks outOfBounds dividesByZero writesLog exits taken branchTaken lowPart logWordOf destination nextIndex destinationBytes becomesSecret
   told-as c e h =
-      ap (λ (d : Class). performedAs big (d .kind) op at labels m) e ∙ h ∙ sym (ap toldAs e) ∙ sym told-by
+      ap (λ (d : Class). performedAs program (d .kind) op at labels m) e ∙ h ∙ sym (ap toldAs e) ∙ sym told-by
 
   -- ---- one operation, by its class
 
-  module _ (b : OfBytes m) (f : Formed big m (at .index) op) where
+  module _ (bytes : OfBytes m) (f : Formed (program .settings) m (at .index) op) where
     abbrev pub Meets : Type 0
-    Meets = performed big op at labels m ≡ told big op at labels m
+    Meets = performed program op at labels m ≡ told program op at labels m
+
+    -- the bytes written are those of the value written
+    abbrev Bytes : (size : ℕ) → List Varnode → Type 0
+    Bytes size vs = bytesWritten (program .settings) op size vs m ≡ bytesOf (bigEndian (program .settings)) size (valueWritten program m op a b)
 
     unread-input1 : hasSecret labels (op .input1) ≡ false
         → secret labels (op .input0 ∷ []) ≡ hasSecret labels (op .input0) || hasSecret labels (op .input1) || false
     unread-input1 e = one-secret labels (op .input0) ∙ rw e (sym (or-false _ ∙ or-false _))
 
     meets-copy : classOf (op .opcode) ≡ free Kind.copy → hasPlace (op .opcode) 2 ≡ false
-        → bytesWritten big op (op .output .size) (op .input0 ∷ []) m ≡ bytesOf big (op .output .size) (valueWritten big m op) → Meets
+        → Bytes (op .output .size) (op .input0 ∷ []) → Meets
     unfolding free toldAs guarded checked target sources
     meets-copy c p e =
         told-as (free Kind.copy) c
         (unchecked _ _ _ _ _ _ Kind.copy refl (λ i extent room x. refl) refl
-        (writes Kind.copy 0 _ _ _ refl (unread-input1 (absent-public labels (op .input1) (f .noInput1 p))) e))
+        (writes Kind.copy _ _ _ _ refl (unread-input1 (absent-public labels (op .input1) (f .noInput1 p))) e))
 
     meets-subpiece : classOf (op .opcode) ≡ free Kind.subpiece → op .input1 .space ≡ 1
-        → bytesWritten big op (op .output .size) (op .input0 ∷ []) m ≡ bytesOf big (op .output .size) (valueWritten big m op) → Meets
+        → Bytes (op .output .size) (op .input0 ∷ []) → Meets
     unfolding free toldAs guarded checked target sources
     meets-subpiece c p e =
         told-as (free Kind.subpiece) c
         (unchecked _ _ _ _ _ _ Kind.subpiece refl (λ i extent room x. refl) refl
-        (writes Kind.subpiece 0 _ _ _ refl (unread-input1 (constant-public labels (op .input1) p)) e))
+        (writes Kind.subpiece _ _ _ _ refl (unread-input1 (constant-public labels (op .input1) p)) e))
 
     meets-piece : classOf (op .opcode) ≡ free Kind.piece
-        → bytesWritten big op (op .output .size) (op .input1 ∷ op .input0 ∷ []) m ≡ bytesOf big (op .output .size) (valueWritten big m op) → Meets
+        → Bytes (op .output .size) (op .input1 ∷ op .input0 ∷ []) → Meets
     unfolding free toldAs guarded checked target sources
     meets-piece c e =
         told-as (free Kind.piece) c
         (unchecked _ _ _ _ _ _ Kind.piece refl (λ i extent room x. refl) refl
-        (writes Kind.piece 0 _ _ _ refl
+        (writes Kind.piece _ _ _ _ refl
         (two-secret labels (op .input1) (op .input0) ∙ or-commutes (hasSecret labels (op .input1)) (hasSecret labels (op .input0)) ∙ sym (or-false _)) e))
 
     both-read : secret labels (op .input0 ∷ op .input1 ∷ []) ≡ hasSecret labels (op .input0) || hasSecret labels (op .input1) || false
     both-read = two-secret labels (op .input0) (op .input1) ∙ sym (or-false _)
 
     meets-compute : classOf (op .opcode) ≡ free Kind.compute
-        → bytesWritten big op (op .output .size) (op .input0 ∷ op .input1 ∷ []) m ≡ bytesOf big (op .output .size) (valueWritten big m op) → Meets
+        → Bytes (op .output .size) (op .input0 ∷ op .input1 ∷ []) → Meets
     unfolding free toldAs guarded checked target sources
     meets-compute c e =
         told-as (free Kind.compute) c
-        (unchecked _ _ _ _ _ _ Kind.compute refl (λ i extent room x. refl) refl (writes Kind.compute 0 _ _ _ refl both-read e))
+        (unchecked _ _ _ _ _ _ Kind.compute refl (λ i extent room x. refl) refl (writes Kind.compute _ _ _ _ refl both-read e))
 
     meets-divide : classOf (op .opcode) ≡ divisions
-        → bytesWritten big op (op .output .size) (op .input0 ∷ op .input1 ∷ []) m ≡ bytesOf big (op .output .size) (valueWritten big m op) → Meets
+        → Bytes (op .output .size) (op .input0 ∷ op .input1 ∷ []) → Meets
     unfolding divisions toldAs target sources
     meets-divide c e = told-as divisions c (divided _ _ _ _ _ _ refl (λ p. writes Kind.divide _ _ _ _ refl both-read e))
 
@@ -496,81 +512,78 @@ module _ (big : Bool) (op : Operation) (at : Position) (labels m : Memory) where
     unfolding conditionalBranch toldAs logWord
     meets-cbranch c e d =
         told-as conditionalBranch c
-        (rw (or-false (hasSecret labels (op .input1)), or-false (hasSecret labels (op .input1)), or-false (not (eqb (valueAt big m (op .input1)) 0) && eqb (op .input0 .space) 4))
+        (rw (or-false (hasSecret labels (op .input1)), or-false (hasSecret labels (op .input1)), or-false (not (eqb (b) 0) && eqb (op .input0 .space) 4))
         (cbranched _ _ _ _ _ _ refl refl refl e d))
 
-    pointed-fits : accesses (op .opcode) ≡ true → (size : ℕ) → valueAt big m (pointedBytes big m op size) < 256 ^ size
-    unfolding pointedBytes namesSpace
+    pointed-fits : accesses (op .opcode) ≡ true → (size : ℕ) → valueAt (program .settings) m (pointed op b size) < 256 ^ size
+    unfolding pointed namesSpace
     pointed-fits a size =
         let n = both (eqb (op .input0 .space) 1 && leb 2 (op .input0 .offset)) (leb (op .input0 .offset) 4) (f .named a) in
         let l = both (eqb (op .input0 .space) 1) (leb 2 (op .input0 .offset)) (n .0) in
-        value-fits big m (pointedBytes big m op size) b
+        value-fits (program .settings) m (pointed op b size) bytes
         (λ e. let k : 2 ≤ op .input0 .offset = leb-true 2 (op .input0 .offset) (l .1) in absurd (let z : ⊥ = omega arith in z))
 
     meets-load : classOf (op .opcode) ≡ load → op .input0 .space ≡ 1
-        → bytesWritten big op (op .output .size) (pointedBytes big m op (op .output .size) ∷ []) m ≡ bytesOf big (op .output .size) (valueWritten big m op) → Meets
-    unfolding load toldAs guarded checked target sources pointed pointedBytes pastItsSpace logWord
+        → Bytes (op .output .size) (pointed op b (op .output .size) ∷ []) → Meets
+    unfolding load toldAs guarded tested checked target sources pointed pastItsSpace logWord
     meets-load c s e =
         told-as load c
         (rw (
           or-false (hasSecret labels (op .input1)),
           or-false (hasSecret labels (op .input1)),
           or-false (hasSecret labels (op .input1)),
-          or-false (not (leb (valueAt big m (op .input1) + op .output .size) (length (spaceOf m (op .input0 .offset))))),
+          or-false (not (leb (b + op .output .size) (length (spaceOf m (op .input0 .offset))))),
         )
-        (accessed _ _ _ _ _ _ Kind.load (op .output .size) refl (λ i extent room x. refl) refl refl
-        (λ p. writes Kind.load _ _ _ _ refl (one-secret labels (pointedBytes big m op (op .output .size)) ∙ rw (p, constant-public labels (op .input0) s) refl) e)))
+        (accessed _ _ _ _ _ _ Kind.load (op .output .size) refl refl (λ i extent room x. refl) refl refl
+        (λ p. writes Kind.load _ _ _ _ refl (one-secret labels (pointed op b (op .output .size)) ∙ rw (p, constant-public labels (op .input0) s) refl) e)))
 
     meets-store : classOf (op .opcode) ≡ store
-        → bytesWritten big op (op .input2 .size) (op .input2 ∷ []) m ≡ bytesOf big (op .input2 .size) (valueWritten big m op) → Meets
-    unfolding store toldAs guarded checked target sources pointed pointedBytes pastItsSpace logWord
+        → Bytes (op .input2 .size) (op .input2 ∷ []) → Meets
+    unfolding store toldAs guarded tested checked target sources pointed pastItsSpace logWord
     meets-store c e =
         told-as store c
         (rw (or-false (hasSecret labels (op .input1)), or-false (hasSecret labels (op .input1)), or-false (hasSecret labels (op .input1)))
-        (accessed _ _ _ _ _ _ Kind.store (op .input2 .size) refl (λ i extent room x. refl) refl refl
+        (accessed _ _ _ _ _ _ Kind.store (op .input2 .size) refl refl (λ i extent room x. refl) refl refl
         (λ p. writes Kind.store _ _ _ _ refl (one-secret labels (op .input2)) e)))
 
     -- ---- one operation, by its opcode
 
-    bytes-copy : op .opcode ≡ 1 → bytesWritten big op (op .output .size) (op .input0 ∷ []) m ≡ bytesOf big (op .output .size) (valueWritten big m op)
-    unfolding valueWritten moves dropped among branches
-    bytes-copy e = moved-whole big op m (op .input0) (op .output .size) (rw e refl) (rw e refl) b (f .fits0 (rw e refl)) ∙ rw e refl
+    bytes-copy : op .opcode ≡ 1 → Bytes (op .output .size) (op .input0 ∷ [])
+    unfolding valueWritten valueMoved valueComputed moves dropped among branches
+    bytes-copy e = moved-whole (program .settings) op m (op .input0) (op .output .size) (rw e refl) (rw e refl) bytes (f .fits0 (rw e refl)) ∙ rw e refl
 
-    bytes-zext : op .opcode ≡ 19 → bytesWritten big op (op .output .size) (op .input0 ∷ []) m ≡ bytesOf big (op .output .size) (valueWritten big m op)
-    unfolding valueWritten result lookup intZext moves dropped among branches
-    bytes-zext e = moved-whole big op m (op .input0) (op .output .size) (rw e refl) (rw e refl) b (f .fits0 (rw e refl)) ∙ rw e refl
+    bytes-zext : op .opcode ≡ 19 → Bytes (op .output .size) (op .input0 ∷ [])
+    unfolding valueWritten valueMoved valueComputed result lookup intZext moves dropped among branches
+    bytes-zext e = moved-whole (program .settings) op m (op .input0) (op .output .size) (rw e refl) (rw e refl) bytes (f .fits0 (rw e refl)) ∙ rw e refl
 
-    bytes-load : op .opcode ≡ 2
-        → bytesWritten big op (op .output .size) (pointedBytes big m op (op .output .size) ∷ []) m ≡ bytesOf big (op .output .size) (valueWritten big m op)
-    unfolding valueWritten moves dropped among accesses pointedBytes
+    bytes-load : op .opcode ≡ 2 → Bytes (op .output .size) (pointed op b (op .output .size) ∷ [])
+    unfolding valueWritten valueMoved valueComputed moves dropped among accesses pointed
     bytes-load e =
-        moved-whole big op m (pointedBytes big m op (op .output .size)) (op .output .size) (rw e refl) (rw e refl) b (pointed-fits (rw e refl) (op .output .size)) ∙ rw e refl
+        moved-whole (program .settings) op m (pointed op b (op .output .size)) (op .output .size) (rw e refl) (rw e refl) bytes (pointed-fits (rw e refl) (op .output .size)) ∙ rw e refl
 
-    bytes-store : op .opcode ≡ 3 → bytesWritten big op (op .input2 .size) (op .input2 ∷ []) m ≡ bytesOf big (op .input2 .size) (valueWritten big m op)
-    unfolding valueWritten moves dropped among
-    bytes-store e = moved-whole big op m (op .input2) (op .input2 .size) (rw e refl) (rw e refl) b (f .fits2) ∙ rw e refl
+    bytes-store : op .opcode ≡ 3 → Bytes (op .input2 .size) (op .input2 ∷ [])
+    unfolding valueWritten valueMoved valueComputed moves dropped among
+    bytes-store e = moved-whole (program .settings) op m (op .input2) (op .input2 .size) (rw e refl) (rw e refl) bytes (f .fits2) ∙ rw e refl
 
-    bytes-computed : moves op ≡ false
-        → bytesWritten big op (op .output .size) (op .input0 ∷ op .input1 ∷ []) m ≡ bytesOf big (op .output .size) (valueWritten big m op)
-    unfolding valueWritten moves among
+    bytes-computed : moves op ≡ false → Bytes (op .output .size) (op .input0 ∷ op .input1 ∷ [])
+    unfolding valueWritten valueMoved valueComputed moves among
     bytes-computed e =
-        calculated big op m (op .output .size) e
+        calculated (program .settings) op m (op .output .size) e
         ∙ (let n1 = neither (eqb (op .opcode) 1) (among (op .opcode) (2 ∷ 3 ∷ 10 ∷ 11 ∷ 19 ∷ [])) e in
         let n2 = neither (eqb (op .opcode) 2) (among (op .opcode) (3 ∷ 10 ∷ 11 ∷ 19 ∷ [])) (n1 .1) in
         let n3 = neither (eqb (op .opcode) 3) (among (op .opcode) (10 ∷ 11 ∷ 19 ∷ [])) (n2 .1) in
         rw (n1 .0, n2 .0, n3 .0) refl)
 
-    bytes-piece : op .opcode ≡ 10
-        → bytesWritten big op (op .output .size) (op .input1 ∷ op .input0 ∷ []) m ≡ bytesOf big (op .output .size) (valueWritten big m op)
-    unfolding valueWritten result lookup piece moves dropped among branches
+    bytes-piece : op .opcode ≡ 10 → Bytes (op .output .size) (op .input1 ∷ op .input0 ∷ [])
+    unfolding valueWritten valueMoved valueComputed result lookup piece moves dropped among branches
     bytes-piece e =
-        moved-both big op m (op .input0) (op .input1) (op .output .size) (rw e refl) (rw e refl) b (f .fits0 (rw e refl)) (f .fits1) ∙ rw e refl
+        moved-both (program .settings) op m (op .input0) (op .input1) (op .output .size) (rw e refl) (rw e refl) bytes (f .fits0 (rw e refl)) (f .fits1) ∙ rw e refl
 
-    bytes-subpiece : op .opcode ≡ 11 → bytesWritten big op (op .output .size) (op .input0 ∷ []) m ≡ bytesOf big (op .output .size) (valueWritten big m op)
-    unfolding valueWritten result lookup subpiece moves dropped among branches
+    bytes-subpiece : op .opcode ≡ 11 → Bytes (op .output .size) (op .input0 ∷ [])
+    unfolding valueWritten valueMoved valueComputed result lookup subpiece moves dropped among branches
     bytes-subpiece e =
-        moved-part big op m (op .input0) (op .input1 .offset) (op .output .size) (rw e refl) (rw e refl) b (f .fits0 (rw e refl))
-        ∙ ap (λ (k : ℕ). bytesOf big (op .output .size) (subpiece (op .output .size) (valueAt big m (op .input0)) k)) (sym (constant-value big m (op .input1) (f .constant1 e)))
+        moved-part (program .settings) op m (op .input0) (op .input1 .offset) (op .output .size) (rw e refl) (rw e refl) bytes (f .fits0 (rw e refl))
+        ∙ ap (λ (k : ℕ). bytesOf (bigEndian (program .settings)) (op .output .size) (subpiece (op .output .size) a k)) (sym (constant-value (program .settings) m (op .input1) (f .constant1 e)))
         ∙ rw e refl
 
     names-a-space : accesses (op .opcode) ≡ true → op .input0 .space ≡ 1
@@ -598,7 +611,8 @@ module _ (big : Bool) (op : Operation) (at : Position) (labels m : Memory) where
         when (op .opcode) 36 (λ e. meets-divide (ap classOf e) (bytes-computed (rw e refl))) (λ n36.
         when (op .opcode) 37 (λ e. meets-divide (ap classOf e) (bytes-computed (rw e refl))) (λ n37.
         when (op .opcode) 38 (λ e. meets-divide (ap classOf e) (bytes-computed (rw e refl))) (λ n38.
-        meets-compute (rw (no-division (op .opcode) n35 n36 n37 n38, n1, n2, n3, n4, n5, n6, n7, n8, n9, n10, n11, n19, n35, n36, n37, n38) refl) (bytes-computed (rw (n1, n2, n3, n10, n11, n19) refl))))))))))))))))))
+        meets-compute (rw (no-division (op .opcode) n35 n36 n37 n38, n1, n2, n3, n4, n5, n6, n7, n8, n9, n10, n11, n19, n35, n36, n37, n38) refl)
+        (bytes-computed (rw (n1, n2, n3, n10, n11, n19) refl))))))))))))))))))
 
 -- ---- a well-formed operation
 
@@ -636,9 +650,9 @@ module _ (opcode : ℕ) (v : Varnode) where
   unfolding breaksPlace
   is-constant p e = eqb-true (v .space) 1 (not-false (eqb (v .space) 1) (rw e at p))
 
-module _ (big : Bool) (addressSize : ℕ) (list : List ℕ) (i : ℕ) (m : Memory) (words : Words list) (b : OfBytes m)
+module _ (settings : Settings) (addressSize : ℕ) (list : List ℕ) (i : ℕ) (m : Memory) (words : Words list) (b : OfBytes m)
     (small : operationCount list < 2 ^ 64) (w : WellFormed addressSize (lengthsOf m) list i) where
-  pub formed : Formed big m i (operationAt list i)
+  pub formed : Formed settings m i (operationAt list i)
   unfolding operationAt absent varnodeAt describedBy offsetAt wordAt
   formed = record {
     noOutput = λ e. w .absent 0 (omega arith) e;
@@ -646,9 +660,9 @@ module _ (big : Bool) (addressSize : ℕ) (list : List ℕ) (i : ℕ) (m : Memor
     named = λ e. names _ _ (w .placed 1 (omega arith)) e;
     constant1 = λ e. is-constant _ _ (w .placed 2 (omega arith)) e;
     branchTo = λ e. destination-of i (operationCount list) (varnodeAt list i 1) (leads _ _ (w .placed 1 (omega arith)) e) (words _) small (λ s. w .target e s);
-    fits0 = λ e. value-fits big m (varnodeAt list i 1) b (w .constant 1 (omega arith) (λ k. e));
-    fits1 = value-fits big m (varnodeAt list i 2) b (w .constant 2 (omega arith) (λ k. absurd (let z : ⊥ = omega arith in z)));
-    fits2 = value-fits big m (varnodeAt list i 3) b (w .constant 3 (omega arith) (λ k. absurd (let z : ⊥ = omega arith in z)));
+    fits0 = λ e. value-fits settings m (varnodeAt list i 1) b (w .constant 1 (omega arith) (λ k. e));
+    fits1 = value-fits settings m (varnodeAt list i 2) b (w .constant 2 (omega arith) (λ k. absurd (let z : ⊥ = omega arith in z)));
+    fits2 = value-fits settings m (varnodeAt list i 3) b (w .constant 3 (omega arith) (λ k. absurd (let z : ⊥ = omega arith in z)));
   }
 
 -- ---- the run
@@ -663,32 +677,32 @@ few-operations lengths list e =
     omega arith
 
 -- at n, END
-at-end : (big : Bool) (list : List ℕ) (budget : ℕ) (at : Position) (labels m : Memory) → ltb (at .index) (operationCount list) ≡ false
-    → run big list budget at labels m ≡ continued (run big list (budget - 1)) (toldWithin big list budget at labels m)
+at-end : (program : Program) (budget : ℕ) (at : Position) (labels m : Memory) → ltb (at .index) (operationCount (program .list)) ≡ false
+    → run program budget at labels m ≡ continued (run program (budget - 1)) (toldWithin program budget at labels m)
 unfolding run stepped toldWithin continued
-at-end big list zero at labels m e = rw (e, le-leb (operationCount list) (at .index) (ltb-false (at .index) (operationCount list) e)) refl
-at-end big list (suc budget) at labels m e = rw (e, le-leb (operationCount list) (at .index) (ltb-false (at .index) (operationCount list) e)) refl
+at-end program zero at labels m e = rw (e, le-leb (operationCount (program .list)) (at .index) (ltb-false (at .index) (operationCount (program .list)) e)) refl
+at-end program (suc budget) at labels m e = rw (e, le-leb (operationCount (program .list)) (at .index) (ltb-false (at .index) (operationCount (program .list)) e)) refl
 
 -- before n, BUDGET or the operation
-at-operation : (big : Bool) (list : List ℕ) (budget : ℕ) (at : Position) (labels m : Memory) → ltb (at .index) (operationCount list) ≡ true
-    → performed big (operationAt list (at .index)) at labels m ≡ told big (operationAt list (at .index)) at labels m
-    → run big list budget at labels m ≡ continued (run big list (budget - 1)) (toldWithin big list budget at labels m)
+at-operation : (program : Program) (budget : ℕ) (at : Position) (labels m : Memory) → ltb (at .index) (operationCount (program .list)) ≡ true
+    → performed program (operationAt (program .list) (at .index)) at labels m ≡ told program (operationAt (program .list) (at .index)) at labels m
+    → run program budget at labels m ≡ continued (run program (budget - 1)) (toldWithin program budget at labels m)
 unfolding run stepped toldWithin continued
-at-operation big list zero at labels m e h = rw (e, lt-leb (operationCount list) (at .index) (ltb-true (at .index) (operationCount list) e)) refl
-at-operation big list (suc budget) at labels m e h =
+at-operation program zero at labels m e h = rw (e, lt-leb (operationCount (program .list)) (at .index) (ltb-true (at .index) (operationCount (program .list)) e)) refl
+at-operation program (suc budget) at labels m e h =
     let less : suc budget - 1 ≡ budget = omega arith in
-    rw (e, lt-leb (operationCount list) (at .index) (ltb-true (at .index) (operationCount list) e), h, less, ne-eqb (suc budget) 0 (λ z. absurd (omega arith))) refl
+    rw (e, lt-leb (operationCount (program .list)) (at .index) (ltb-true (at .index) (operationCount (program .list)) e), h, less, ne-eqb (suc budget) 0 (λ z. absurd (omega arith))) refl
 
 pub exact-conditions : ExactConditions
-exact-conditions settings list budget at labels m words b v = by (ltb (at .index) (operationCount list)) refl
+exact-conditions program budget at labels m words b v = by (ltb (at .index) (operationCount (program .list))) refl
   where
-    by : (t : Bool) → ltb (at .index) (operationCount list) ≡ t
-        → run (eqb (settings .order) 1) list budget at labels m
-        ≡ continued (run (eqb (settings .order) 1) list (budget - 1)) (toldWithin (eqb (settings .order) 1) list budget at labels m)
+    by : (t : Bool) → ltb (at .index) (operationCount (program .list)) ≡ t
+        → run program budget at labels m ≡ continued (run program (budget - 1)) (toldWithin program budget at labels m)
     by true e =
-        let z = verdict-zero settings (lengthsOf m) list v in
-        at-operation (eqb (settings .order) 1) list budget at labels m e
-        (meets (eqb (settings .order) 1) (operationAt list (at .index)) at labels m b
-        (formed (eqb (settings .order) 1) (settings .«address_size») list (at .index) m words b (few-operations (lengthsOf m) list (z .1))
-        (z .2 (at .index) (ltb-true (at .index) (operationCount list) e))))
-    by false e = at-end (eqb (settings .order) 1) list budget at labels m e
+        let z = verdict-zero (program .settings) (lengthsOf m) (program .list) v in
+        let small = few-operations (lengthsOf m) (program .list) (z .1) in
+        let w = z .2 (at .index) (ltb-true (at .index) (operationCount (program .list)) e) in
+        at-operation program budget at labels m e
+        (meets program (operationAt (program .list) (at .index)) at labels m b
+        (formed (program .settings) (program .settings .«address_size») (program .list) (at .index) m words b small w))
+    by false e = at-end program budget at labels m e

@@ -1,4 +1,4 @@
--- What every operation keeps: the lengths of memory and labels, that each label is 0 or 1, and the log's room. Assumes nothing.
+-- What every operation keeps: the lengths of memory and labels, that each label is 0 or 1, and the log's room.
 use Prim.Native.Nat.{ℕ, zero, suc, _+_, _≤_}
 use native.Mathlib.Omega.{arith}
 use mathlib.Core.Path.{_≡_, refl, _∙_}
@@ -13,6 +13,7 @@ use Rattle.integer.proofs.Booleans.{both}
 use Rattle.operation.specs.declared.layout.Varnode.{Varnode}
 use Rattle.operation.specs.declared.layout.Lengths.{Lengths}
 use Rattle.operation.specs.Layout.{operationCount}
+use Rattle.machine.specs.Program.{Program}
 use Rattle.machine.specs.Memory.{Memory, lengthsOf, spaceOf, withSpace, written}
 use Rattle.machine.specs.Effect.{Operation, Kind, operationAt, sources, target, secret, labelsWritten}
 use Rattle.machine.specs.Run.{Stop, Decision, Position, Ended, Stepped, logging, goTo, access, checked, decided, advanced, ended, carriedOut, performedAs, performed, stepped, continued, run}
@@ -121,14 +122,14 @@ decided-fits t k op i extent room x = either (Fits room) t _ _ stops (checked-fi
 
 -- ---- the run
 
--- A log of `words` words, spaces and labels of the same lengths as at the start, and every label 0 or 1.
-pub record Kept (words : ℕ) (spaces marks : Lengths) (at : Position) (labels m : Memory) : Type 0 where
+-- A log of `words` words, spaces and labels of the same lengths as at the start, and every label 0 or 1 if all were at the start.
+pub record Kept (words : ℕ) (spaces : Lengths) (marks : Memory) (at : Position) (labels m : Memory) : Type 0 where
   pub log : at .room + length (at .log) ≡ words
   pub memory : lengthsOf m ≡ spaces
-  pub lengths : lengthsOf labels ≡ marks
-  pub values : labelsInRange labels ≡ true
+  pub lengths : lengthsOf labels ≡ lengthsOf marks
+  pub values : labelsInRange marks ≡ true → labelsInRange labels ≡ true
 
-module _ (words : ℕ) (spaces marks : Lengths) (big : Bool) (list : List ℕ) where
+module _ (words : ℕ) (spaces : Lengths) (marks : Memory) (program : Program) where
   data KeptStep : Stepped → Type 0 where
     halts : {r : Ended} → Kept words spaces marks (r .position) (r .labels) (r .memory) → KeptStep (Stepped.halted r)
     goes : {at : Position} {labels m : Memory} → Kept words spaces marks at labels m → KeptStep (Stepped.going at labels m)
@@ -139,7 +140,7 @@ module _ (words : ℕ) (spaces marks : Lengths) (big : Bool) (list : List ℕ) w
   advanced-log at i vs h e = rw (length-append (at .log) vs) (omega (arith, h, e))
 
   carried-kept : (k : Kind) (op : Operation) (at : Position) (labels m : Memory) (x : ℕ) {d : Decision} → Fits (at .room) d
-      → Kept words spaces marks at labels m → KeptStep (carriedOut big k op at labels m x d)
+      → Kept words spaces marks at labels m → KeptStep (carriedOut program k op at labels m x d)
   unfolding carriedOut ended labelsWritten
   carried-kept k op at labels m x stops h = halts h
   carried-kept k op at labels m x (exits l) h =
@@ -149,14 +150,14 @@ module _ (words : ℕ) (spaces marks : Lengths) (big : Bool) (list : List ℕ) w
         log = advanced-log at _ _ l (h .log);
         memory = written-lengths m (target k op x) _ ∙ h .memory;
         lengths = written-lengths labels (target k op x) _ ∙ h .lengths;
-        values = written-labels labels (target k op x) _ (h .values) (all-flags (target k op x .size) (secret labels (sources k op x)));
+        values = λ q. written-labels labels (target k op x) _ (h .values q) (all-flags (target k op x .size) (secret labels (sources k op x)));
       })
 
-  stepped-kept : (at : Position) (labels m : Memory) → Kept words spaces marks at labels m → KeptStep (stepped big list at labels m)
+  stepped-kept : (at : Position) (labels m : Memory) → Kept words spaces marks at labels m → KeptStep (stepped program at labels m)
   unfolding stepped performed performedAs ended
   stepped-kept at labels m h =
-      either KeptStep (ltb (at .index) (operationCount list)) _ _
-      (carried-kept _ (operationAt list (at .index)) at labels m _ (decided-fits _ _ _ _ _ _ _) h) (halts h)
+      either KeptStep (ltb (at .index) (operationCount (program .list))) _ _
+      (carried-kept _ (operationAt (program .list) (at .index)) at labels m _ (decided-fits _ _ _ _ _ _ _) h) (halts h)
 
   continued-kept : (f : Position → Memory → Memory → Ended)
       → ((at : Position) (labels m : Memory) → Kept words spaces marks at labels m
@@ -167,19 +168,19 @@ module _ (words : ℕ) (spaces marks : Lengths) (big : Bool) (list : List ℕ) w
   continued-kept f q (goes {at} {labels} {m} h) = q at labels m h
 
   pub run-kept : (b : ℕ) (at : Position) (labels m : Memory) → Kept words spaces marks at labels m
-      → Kept words spaces marks (run big list b at labels m .position) (run big list b at labels m .labels) (run big list b at labels m .memory)
+      → Kept words spaces marks (run program b at labels m .position) (run program b at labels m .labels) (run program b at labels m .memory)
   unfolding run ended
   run-kept zero at labels m h = h
   run-kept (suc b) at labels m h = continued-kept _ (λ at′ l m′ h′. run-kept b at′ l m′ h′) (stepped-kept at labels m h)
 
 -- a run keeps the lengths that it began with, and its labels stay labels
-pub started-kept : (big : Bool) (list : List ℕ) (start budget : ℕ) (log : List ℕ) (labels m : Memory) → labelsInRange labels ≡ true
-    → (let r = run big list budget (starting start (length log)) labels m in
-    Kept (length log) (lengthsOf m) (lengthsOf labels) (r .position) (r .labels) (r .memory))
+pub started-kept : (program : Program) (start budget : ℕ) (log : List ℕ) (labels m : Memory)
+    → (let r = run program budget (starting start (length log)) labels m in
+    Kept (length log) (lengthsOf m) labels (r .position) (r .labels) (r .memory))
 unfolding starting
-started-kept big list start budget log labels m h =
-    run-kept (length log) (lengthsOf m) (lengthsOf labels) big list budget (starting start (length log)) labels m
-    (record { log = omega arith; memory = refl; lengths = refl; values = h })
+started-kept program start budget log labels m =
+    run-kept (length log) (lengthsOf m) labels program budget (starting start (length log)) labels m
+    (record { log = omega arith; memory = refl; lengths = refl; values = λ q. q })
 
 pub unlabelled-in-range : labelsInRange unlabelled ≡ true
 unfolding labelsInRange allLabels unlabelled

@@ -1,4 +1,4 @@
--- Stops, counts and log words. Assumes nothing.
+-- Stops, counts and log words.
 use Prim.Native.Nat.{ℕ, _-_, zero, suc, _+_, _≤_}
 use native.Mathlib.Omega.{arith}
 use mathlib.Core.Path.{_≡_, refl, sym, ap, _∙_}
@@ -9,13 +9,14 @@ use lib.Dec.{eqb, ltb}
 use Rattle.operation.specs.declared.layout.Settings.{Settings}
 use Rattle.operation.specs.declared.report.Report.{Report}
 use Rattle.operation.specs.Layout.{operationCount}
+use Rattle.machine.specs.Program.{Program, programOf}
 use Rattle.machine.specs.Memory.{Memory, lengthsOf}
 use Rattle.machine.specs.Effect.{Operation, Kind, operationAt}
 use Rattle.machine.specs.Run.{Stop, Decision, Position, Ended, Stepped, endingOf, advanced, ended, carriedOut, performedAs, performed, stepped, continued, run}
 use Rattle.machine.specs.Calls.{Outcome, sameLengths, labelsInRange, logAfter, outcomeOf, starting, called, labelledRun, unlabelled, plainRun}
 use Rattle.machine.specs.Limits.{Unchanged, Limited, afterOperations, stateOf, Limits}
-use Rattle.machine.proofs.Refusals.{Refuses, refusal-refuses, nothing-ran, not-stopped, accepted-labels}
-use Rattle.machine.proofs.Kept.{started-kept, unlabelled-in-range}
+use Rattle.machine.proofs.Refusals.{Refuses, refusal-refuses, nothing-ran, not-stopped}
+use Rattle.machine.proofs.Kept.{started-kept}
 use Rattle.machine.proofs.Cases.{either}
 
 -- ---- how a single operation ends, and what it counts
@@ -34,29 +35,29 @@ stop-large Stop.bounds = omega arith
 stop-large Stop.zeroDivisor = omega arith
 stop-large Stop.logFull = omega arith
 
-carried-counts : (big : Bool) (k : Kind) (op : Operation) (at : Position) (labels m : Memory) (x : ℕ) (d : Decision)
-    → Counts at labels m (carriedOut big k op at labels m x d)
+carried-counts : (program : Program) (k : Kind) (op : Operation) (at : Position) (labels m : Memory) (x : ℕ) (d : Decision)
+    → Counts at labels m (carriedOut program k op at labels m x d)
 unfolding carriedOut ended advanced
-carried-counts big k op at labels m x (Decision.stop e) =
+carried-counts program k op at labels m x (Decision.stop e) =
     stays {r = ended (endingOf e) 0 at labels m} (λ x y. omega (arith, stop-large e, y)) (λ z. omega (arith, stop-large e, z)) refl refl refl
-carried-counts big k op at labels m x (Decision.exit words d) =
+carried-counts program k op at labels m x (Decision.exit words d) =
     exits {r = ended 1 d (advanced at (at .index) words) labels m} refl refl
-carried-counts big k op at labels m x (Decision.next words i) = goes refl
+carried-counts program k op at labels m x (Decision.next words i) = goes refl
 
-stepped-counts : (big : Bool) (list : List ℕ) (at : Position) (labels m : Memory) → Counts at labels m (stepped big list at labels m)
+stepped-counts : (program : Program) (at : Position) (labels m : Memory) → Counts at labels m (stepped program at labels m)
 unfolding stepped performed performedAs ended
-stepped-counts big list at labels m =
-    either (Counts at labels m) (ltb (at .index) (operationCount list)) _ _ (carried-counts big _ (operationAt list (at .index)) at labels m _ _)
+stepped-counts program at labels m =
+    either (Counts at labels m) (ltb (at .index) (operationCount (program .list))) _ _ (carried-counts program _ (operationAt (program .list) (at .index)) at labels m _ _)
     (stays {r = ended 0 0 at labels m} (λ (x : 10 ≤ 0) y. omega (arith, x)) (λ (h : _≡_ {A = ℕ} 0 2). omega arith) refl refl refl)
 
 -- ---- the run
 
 -- no ending of a run is a refusal's; the count is at most the budget, and with BUDGET all of it
-record Run (executed budget : ℕ) (r : Ended) : Type 0 where
-  ending : 10 ≤ r .ending → r .ending ≤ 27 → ⊥
-  before : executed ≤ r .position .executed
-  counted : r .position .executed ≤ executed + budget
-  stopped : r .ending ≡ 2 → r .position .executed ≡ executed + budget
+pub record Run (executed budget : ℕ) (r : Ended) : Type 0 where
+  pub ending : 10 ≤ r .ending → r .ending ≤ 27 → ⊥
+  pub before : executed ≤ r .position .executed
+  pub counted : r .position .executed ≤ executed + budget
+  pub stopped : r .ending ≡ 2 → r .position .executed ≡ executed + budget
 
 continued-counts : (budget : ℕ) (f : Position → Memory → Memory → Ended) → ((at : Position) (labels m : Memory) → Run (at .executed) budget (f at labels m))
     → (at : Position) (labels m : Memory) {a : Stepped} → Counts at labels m a → Run (at .executed) (suc budget) (continued f a)
@@ -70,19 +71,19 @@ continued-counts budget f h at labels m (goes {next} {ls} {n} e) =
     let r = h next ls n in
     record { ending = r .ending; before = omega (arith, r .before, e); counted = omega (arith, r .counted, e); stopped = λ z. omega (arith, r .stopped z, e) }
 
-run-counts : (big : Bool) (list : List ℕ) (budget : ℕ) (at : Position) (labels m : Memory) → Run (at .executed) budget (run big list budget at labels m)
+pub run-counts : (program : Program) (budget : ℕ) (at : Position) (labels m : Memory) → Run (at .executed) budget (run program budget at labels m)
 unfolding run ended
-run-counts big list zero at labels m = by (ltb (at .index) (operationCount list))
+run-counts program zero at labels m = by (ltb (at .index) (operationCount (program .list)))
   where
     by : (t : Bool) → Run (at .executed) 0 (record { ending = cond t 2 0; value = 0; position = at; labels = labels; memory = m })
     by true = record { ending = λ x y. omega (arith, x); before = omega arith; counted = omega arith; stopped = λ z. omega arith }
     by false = record { ending = λ x y. omega (arith, x); before = omega arith; counted = omega arith; stopped = λ z. omega arith }
-run-counts big list (suc budget) at labels m =
-    continued-counts budget _ (λ at′ l m′. run-counts big list budget at′ l m′) at labels m (stepped-counts big list at labels m)
+run-counts program (suc budget) at labels m =
+    continued-counts budget _ (λ at′ l m′. run-counts program budget at′ l m′) at labels m (stepped-counts program at labels m)
 
 -- ---- the calls
 
-log-length : (words log : List ℕ) → length words ≤ length log → length (logAfter words log) ≡ length log
+pub log-length : (words log : List ℕ) → length words ≤ length log → length (logAfter words log) ≡ length log
 unfolding logAfter
 log-length words log h = rw (length-append words (drop (length words) log), length-drop (length words) log) (omega (arith, h))
 
@@ -91,7 +92,7 @@ module _ (settings : Settings) (list : List ℕ) (start budget : ℕ) (log : Lis
   lent = record { report = refused; memory = m; labels = labels; log = log }
 
   runs : Ended
-  runs = run (eqb (settings .order) 1) list budget (starting start (length log)) labels m
+  runs = run (programOf settings list) budget (starting start (length log)) labels m
 
   called-unchanged : 10 ≤ called settings list start budget log labels m refused .report .ending
       → called settings list start budget log labels m refused .report .ending ≤ 27 → Unchanged log labels m (called settings list start budget log labels m refused)
@@ -100,19 +101,19 @@ module _ (settings : Settings) (list : List ℕ) (start budget : ℕ) (log : Lis
     where
       by : (t : Bool) → 10 ≤ cond t (outcomeOf log runs) lent .report .ending → cond t (outcomeOf log runs) lent .report .ending ≤ 27
           → Unchanged log labels m (cond t (outcomeOf log runs) lent)
-      by true x y = absurd (run-counts (eqb (settings .order) 1) list budget (starting start (length log)) labels m .ending x y)
+      by true x y = absurd (run-counts (programOf settings list) budget (starting start (length log)) labels m .ending x y)
       by false x y =
           let n = nothing-ran rs in
           record { sameMemory = refl; sameLabels = refl; sameLog = refl; executed = n .0; logged = n .1; value = n .2 }
 
-  called-limited : (eqb (refused .ending) 0 ≡ true → labelsInRange labels ≡ true) → Limited budget log (called settings list start budget log labels m refused)
+  called-limited : Limited budget log (called settings list start budget log labels m refused)
   unfolding called outcomeOf lent runs starting
-  called-limited f = by (eqb (refused .ending) 0) f
+  called-limited = by (eqb (refused .ending) 0)
     where
-      by : (t : Bool) → (t ≡ true → labelsInRange labels ≡ true) → Limited budget log (cond t (outcomeOf log runs) lent)
-      by true g =
-          let c = run-counts (eqb (settings .order) 1) list budget (starting start (length log)) labels m in
-          let k = started-kept (eqb (settings .order) 1) list start budget log labels m (g refl) .log in
+      by : (t : Bool) → Limited budget log (cond t (outcomeOf log runs) lent)
+      by true =
+          let c = run-counts (programOf settings list) budget (starting start (length log)) labels m in
+          let k = started-kept (programOf settings list) start budget log labels m .log in
           let w : length (runs .position .log) ≤ length log = omega (arith, k) in
           record {
             executed = omega (arith, c .counted);
@@ -120,7 +121,7 @@ module _ (settings : Settings) (list : List ℕ) (start budget : ℕ) (log : Lis
             logged = w;
             sameLength = log-length (runs .position .log) log w;
           }
-      by false g =
+      by false =
           let n = nothing-ran rs in
           record { executed = omega (arith, n .0); stopped = λ z. absurd (not-stopped rs z); logged = omega (arith, n .1); sameLength = refl }
 
@@ -141,39 +142,39 @@ stopped-operation at labels m (goes x) r e h = absurd (let z : _≡_ {A = ℕ} 1
 
 -- ---- as many single operations as were counted
 
-after-next : (big : Bool) (list : List ℕ) (k : ℕ) (at : Position) (labels m : Memory) {a : Stepped} → stepped big list at labels m ≡ a
-    → afterOperations big list (suc k) (Stepped.going at labels m) ≡ afterOperations big list k a
+after-next : (program : Program) (k : ℕ) (at : Position) (labels m : Memory) {a : Stepped} → stepped program at labels m ≡ a
+    → afterOperations program (suc k) (Stepped.going at labels m) ≡ afterOperations program k a
 unfolding afterOperations
-after-next big list k at labels m s = rw s
+after-next program k at labels m s = rw s
 
-continued-after : (big : Bool) (list : List ℕ) (budget : ℕ) (f : Position → Memory → Memory → Ended)
+continued-after : (program : Program) (budget : ℕ) (f : Position → Memory → Memory → Ended)
     → ((at : Position) (labels m : Memory) → Run (at .executed) budget (f at labels m))
     → ((at : Position) (labels m : Memory)
-    → stateOf (afterOperations big list (f at labels m .position .executed - at .executed) (Stepped.going at labels m))
+    → stateOf (afterOperations program (f at labels m .position .executed - at .executed) (Stepped.going at labels m))
     ≡ (f at labels m .position, f at labels m .labels, f at labels m .memory))
-    → (at : Position) (labels m : Memory) {a : Stepped} → stepped big list at labels m ≡ a → Counts at labels m a
-    → stateOf (afterOperations big list (continued f a .position .executed - at .executed) (Stepped.going at labels m))
+    → (at : Position) (labels m : Memory) {a : Stepped} → stepped program at labels m ≡ a → Counts at labels m a
+    → stateOf (afterOperations program (continued f a .position .executed - at .executed) (Stepped.going at labels m))
     ≡ (continued f a .position, continued f a .labels, continued f a .memory)
 unfolding continued afterOperations stateOf
-continued-after big list budget f h q at labels m s (stays {r} e n p l x) =
+continued-after program budget f h q at labels m s (stays {r} e n p l x) =
     let c = ap (λ (x : Position). x .executed) p in
     let z : r .position .executed - at .executed ≡ 0 = omega (arith, c) in
     rw (z, p, l, x)
-continued-after big list budget f h q at labels m s (exits {r} e c) =
+continued-after program budget f h q at labels m s (exits {r} e c) =
     let z : r .position .executed - at .executed ≡ 1 = omega (arith, c) in
     rw (z, s)
-continued-after big list budget f h q at labels m s (goes {next} {ls} {n} e) =
+continued-after program budget f h q at labels m s (goes {next} {ls} {n} e) =
     let z : f next ls n .position .executed - at .executed ≡ suc (f next ls n .position .executed - next .executed) = omega (arith, e, h next ls n .before) in
-    ap stateOf (ap (λ (k : ℕ). afterOperations big list k (Stepped.going at labels m)) z ∙ after-next big list (f next ls n .position .executed - next .executed) at labels m s) ∙ q next ls n
+    ap stateOf (ap (λ (k : ℕ). afterOperations program k (Stepped.going at labels m)) z ∙ after-next program (f next ls n .position .executed - next .executed) at labels m s) ∙ q next ls n
 
-run-after : (big : Bool) (list : List ℕ) (budget : ℕ) (at : Position) (labels m : Memory)
-    → stateOf (afterOperations big list (run big list budget at labels m .position .executed - at .executed) (Stepped.going at labels m))
-    ≡ (run big list budget at labels m .position, run big list budget at labels m .labels, run big list budget at labels m .memory)
+run-after : (program : Program) (budget : ℕ) (at : Position) (labels m : Memory)
+    → stateOf (afterOperations program (run program budget at labels m .position .executed - at .executed) (Stepped.going at labels m))
+    ≡ (run program budget at labels m .position, run program budget at labels m .labels, run program budget at labels m .memory)
 unfolding run ended afterOperations stateOf
-run-after big list zero at labels m = let z : at .executed - at .executed ≡ 0 = omega arith in rw z
-run-after big list (suc budget) at labels m =
-    continued-after big list budget _ (λ at′ l m′. run-counts big list budget at′ l m′) (λ at′ l m′. run-after big list budget at′ l m′) at labels m refl
-    (stepped-counts big list at labels m)
+run-after program zero at labels m = let z : at .executed - at .executed ≡ 0 = omega arith in rw z
+run-after program (suc budget) at labels m =
+    continued-after program budget _ (λ at′ l m′. run-counts program budget at′ l m′) (λ at′ l m′. run-after program budget at′ l m′) at labels m refl
+    (stepped-counts program at labels m)
 
 pub limits : Limits
 unfolding labelledRun plainRun
@@ -183,10 +184,9 @@ limits = record {
   plainRefusal = λ settings list start budget log m.
       called-unchanged settings list start budget log unlabelled m _ (refusal-refuses settings (lengthsOf m) list start true true);
   labelledLimited = λ settings list start budget log labels m.
-      called-limited settings list start budget log labels m _ (refusal-refuses settings (lengthsOf m) list start (sameLengths (lengthsOf labels) (lengthsOf m)) (labelsInRange labels))
-      (accepted-labels settings (lengthsOf m) list start (sameLengths (lengthsOf labels) (lengthsOf m)) (labelsInRange labels));
+      called-limited settings list start budget log labels m _ (refusal-refuses settings (lengthsOf m) list start (sameLengths (lengthsOf labels) (lengthsOf m)) (labelsInRange labels));
   plainLimited = λ settings list start budget log m.
-      called-limited settings list start budget log unlabelled m _ (refusal-refuses settings (lengthsOf m) list start true true) (λ t. unlabelled-in-range);
+      called-limited settings list start budget log unlabelled m _ (refusal-refuses settings (lengthsOf m) list start true true);
   countedOperations = run-after;
-  stoppedOperation = λ big list at labels m r e. stopped-operation at labels m (stepped-counts big list at labels m) r e;
+  stoppedOperation = λ program at labels m r e. stopped-operation at labels m (stepped-counts program at labels m) r e;
 }

@@ -1,4 +1,4 @@
--- The bytes that a move writes. Assumes nothing.
+-- The bytes that a move writes.
 use Prim.Native.Nat.{ℕ, _+_, _-_, _*_, _/_, _%_, _^_, _<_}
 use native.Mathlib.Nat.{div-eq-of-lt, lt-of-lt-of-le, div-one, zero-add}
 use native.Mathlib.Omega.{arith}
@@ -15,7 +15,9 @@ use Rattle.word.specs.Word.{part, significance, valueOf, bytesOf}
 use Rattle.word.proofs.Sums.{tabulate-is, tabulate-past}
 use Rattle.word.proofs.Powers.{pow-bits, size-mono}
 use Rattle.word.proofs.Laws.{significance-lt, significance-twice, part-length, part-bytes, bytes-length, bytes-at, bytes-bytes, read-written, written-read}
+use Rattle.operation.specs.declared.layout.Settings.{Settings}
 use Rattle.operation.specs.declared.layout.Varnode.{Varnode}
+use Rattle.machine.specs.Program.{bigEndian}
 use Rattle.machine.specs.Memory.{Memory, OfBytes, spaceOf, bytesAt, valueAt, ordered, digitsAt}
 use Rattle.machine.specs.Effect.{Operation, dropped, moves, digitsOf, bytesWritten}
 
@@ -35,17 +37,20 @@ ordered-out big n x =
     (λ i h. bytes-at false n x (significance big n i) (significance-lt big n i h) ∙ sym (bytes-at big n x i h)))
 
 -- a varnode's digits are those of its value
-digits-of : (big : Bool) (m : Memory) (v : Varnode) → OfBytes m → digitsAt big m v ≡ bytesOf false (v .size) (valueAt big m v)
+digits-of : (settings : Settings) (m : Memory) (v : Varnode) → OfBytes m → digitsAt settings m v ≡ bytesOf false (v .size) (valueAt settings m v)
 unfolding digitsAt valueAt bytesAt
-digits-of big m v h = by (eqb (v .space) 1)
+digits-of settings m v h = by (eqb (v .space) 1)
   where
-    memory : ordered big (bytesAt m v) ≡ bytesOf false (v .size) (valueOf big (bytesAt m v))
+    memory : ordered (bigEndian settings) (bytesAt m v) ≡ bytesOf false (v .size) (valueOf (bigEndian settings) (bytesAt m v))
     memory =
-        let w = written-read big (bytesAt m v) (part-bytes (spaceOf m (v .space)) (v .offset) (v .size) (h (v .space))) in
+        let w = written-read (bigEndian settings) (bytesAt m v) (part-bytes (spaceOf m (v .space)) (v .offset) (v .size) (h (v .space))) in
         let l : length (bytesAt m v) ≡ v .size = part-length (spaceOf m (v .space)) (v .offset) (v .size) in
-        ap (ordered big) (sym w) ∙ ordered-back big (length (bytesAt m v)) (valueOf big (bytesAt m v)) ∙ ap (λ (n : ℕ). bytesOf false n (valueOf big (bytesAt m v))) l
+        ap (ordered (bigEndian settings)) (sym w)
+        ∙ ordered-back (bigEndian settings) (length (bytesAt m v)) (valueOf (bigEndian settings) (bytesAt m v))
+        ∙ ap (λ (n : ℕ). bytesOf false n (valueOf (bigEndian settings) (bytesAt m v))) l
 
-    by : (t : Bool) → cond t (bytesOf false (v .size) (v .offset)) (ordered big (bytesAt m v)) ≡ bytesOf false (v .size) (cond t (v .offset) (valueOf big (bytesAt m v)))
+    by : (t : Bool) → cond t (bytesOf false (v .size) (v .offset)) (ordered (bigEndian settings) (bytesAt m v))
+        ≡ bytesOf false (v .size) (cond t (v .offset) (valueOf (bigEndian settings) (bytesAt m v)))
     by true = refl
     by false = memory
 
@@ -78,13 +83,13 @@ bytes-mod big n x =
     let w = written-read big (bytesOf big n x) (bytes-bytes big n x) in
     sym w ∙ ap (λ (k : ℕ). bytesOf big k (valueOf big (bytesOf big n x))) (bytes-length big n x) ∙ ap (bytesOf big n) (read-written big n x)
 
-one-source : (big : Bool) (m : Memory) (v : Varnode) (k n : ℕ) → OfBytes m → valueAt big m v < 256 ^ v .size
-    → ordered big (part (digitsOf big m (v ∷ [])) k n) ≡ bytesOf big n (valueAt big m v / 256 ^ k)
+one-source : (settings : Settings) (m : Memory) (v : Varnode) (k n : ℕ) → OfBytes m → valueAt settings m v < 256 ^ v .size
+    → ordered (bigEndian settings) (part (digitsOf settings m (v ∷ [])) k n) ≡ bytesOf (bigEndian settings) n (valueAt settings m v / 256 ^ k)
 unfolding digitsOf
-one-source big m v k n b h =
-    ap (λ (ds : List ℕ). ordered big (part ds k n)) (append-nil (digitsAt big m v) ∙ digits-of big m v b)
-    ∙ ap (ordered big) (part-of (v .size) (valueAt big m v) k n h)
-    ∙ ordered-out big n (valueAt big m v / 256 ^ k)
+one-source settings m v k n b h =
+    ap (λ (ds : List ℕ). ordered (bigEndian settings) (part ds k n)) (append-nil (digitsAt settings m v) ∙ digits-of settings m v b)
+    ∙ ap (ordered (bigEndian settings)) (part-of (v .size) (valueAt settings m v) k n h)
+    ∙ ordered-out (bigEndian settings) n (valueAt settings m v / 256 ^ k)
 
 -- ---- PIECE
 
@@ -126,33 +131,33 @@ module _ (s t a b : ℕ) (ha : a < 256 ^ s) (hb : b < 256 ^ t) where
       tabulate-is n (λ i. getD (bytesOf false t b ++ bytesOf false s a) (0 + i) 0) (bytesOf false n (a * 256 ^ t + b)) (bytes-length false n (a * 256 ^ t + b))
       (λ i l. ap (λ (k : ℕ). getD (bytesOf false t b ++ bytesOf false s a) k 0) (zero-add i) ∙ joined-entry i ∙ sym (bytes-at false n (a * 256 ^ t + b) i l))
 
-two-sources : (big : Bool) (m : Memory) (u v : Varnode) (n : ℕ) → OfBytes m → valueAt big m u < 256 ^ u .size → valueAt big m v < 256 ^ v .size
-    → ordered big (part (digitsOf big m (v ∷ u ∷ [])) 0 n) ≡ bytesOf big n (valueAt big m u * 256 ^ v .size + valueAt big m v)
+two-sources : (settings : Settings) (m : Memory) (u v : Varnode) (n : ℕ) → OfBytes m → valueAt settings m u < 256 ^ u .size → valueAt settings m v < 256 ^ v .size
+    → ordered (bigEndian settings) (part (digitsOf settings m (v ∷ u ∷ [])) 0 n) ≡ bytesOf (bigEndian settings) n (valueAt settings m u * 256 ^ v .size + valueAt settings m v)
 unfolding digitsOf
-two-sources big m u v n b hu hv =
-    ap (λ (ds : List ℕ). ordered big (part (digitsAt big m v ++ ds) 0 n)) (append-nil (digitsAt big m u))
-    ∙ ap (ordered big) (rw (digits-of big m u b, digits-of big m v b) (joined (u .size) (v .size) (valueAt big m u) (valueAt big m v) hu hv n))
-    ∙ ordered-out big n (valueAt big m u * 256 ^ v .size + valueAt big m v)
+two-sources settings m u v n b hu hv =
+    ap (λ (ds : List ℕ). ordered (bigEndian settings) (part (digitsAt settings m v ++ ds) 0 n)) (append-nil (digitsAt settings m u))
+    ∙ ap (ordered (bigEndian settings)) (rw (digits-of settings m u b, digits-of settings m v b) (joined (u .size) (v .size) (valueAt settings m u) (valueAt settings m v) hu hv n))
+    ∙ ordered-out (bigEndian settings) n (valueAt settings m u * 256 ^ v .size + valueAt settings m v)
 
 -- a move from one varnode, which leaves out its k least significant bytes
-pub moved : (big : Bool) (op : Operation) (m : Memory) (v : Varnode) (k n : ℕ) → moves op ≡ true → dropped op ≡ k → OfBytes m
-    → valueAt big m v < 256 ^ v .size → bytesWritten big op n (v ∷ []) m ≡ bytesOf big n (valueAt big m v / 256 ^ k)
+pub moved : (settings : Settings) (op : Operation) (m : Memory) (v : Varnode) (k n : ℕ) → moves op ≡ true → dropped op ≡ k → OfBytes m
+    → valueAt settings m v < 256 ^ v .size → bytesWritten settings op n (v ∷ []) m ≡ bytesOf (bigEndian settings) n (valueAt settings m v / 256 ^ k)
 unfolding bytesWritten
-moved big op m v k n e d b h = rw (e, d) (one-source big m v k n b h)
+moved settings op m v k n e d b h = rw (e, d) (one-source settings m v k n b h)
 
 -- a move of a whole varnode
-pub moved-whole : (big : Bool) (op : Operation) (m : Memory) (v : Varnode) (n : ℕ) → moves op ≡ true → dropped op ≡ 0 → OfBytes m
-    → valueAt big m v < 256 ^ v .size → bytesWritten big op n (v ∷ []) m ≡ bytesOf big n (valueAt big m v)
-moved-whole big op m v n e d b h = moved big op m v 0 n e d b h ∙ ap (bytesOf big n) (div-one (valueAt big m v))
+pub moved-whole : (settings : Settings) (op : Operation) (m : Memory) (v : Varnode) (n : ℕ) → moves op ≡ true → dropped op ≡ 0 → OfBytes m
+    → valueAt settings m v < 256 ^ v .size → bytesWritten settings op n (v ∷ []) m ≡ bytesOf (bigEndian settings) n (valueAt settings m v)
+moved-whole settings op m v n e d b h = moved settings op m v 0 n e d b h ∙ ap (bytesOf (bigEndian settings) n) (div-one (valueAt settings m v))
 
 -- SUBPIECE: n bytes are written of the number that is left
-pub moved-part : (big : Bool) (op : Operation) (m : Memory) (v : Varnode) (k n : ℕ) → moves op ≡ true → dropped op ≡ k → OfBytes m
-    → valueAt big m v < 256 ^ v .size → bytesWritten big op n (v ∷ []) m ≡ bytesOf big n (valueAt big m v / 256 ^ k % 256 ^ n)
-moved-part big op m v k n e d b h = moved big op m v k n e d b h ∙ bytes-mod big n (valueAt big m v / 256 ^ k)
+pub moved-part : (settings : Settings) (op : Operation) (m : Memory) (v : Varnode) (k n : ℕ) → moves op ≡ true → dropped op ≡ k → OfBytes m
+    → valueAt settings m v < 256 ^ v .size → bytesWritten settings op n (v ∷ []) m ≡ bytesOf (bigEndian settings) n (valueAt settings m v / 256 ^ k % 256 ^ n)
+moved-part settings op m v k n e d b h = moved settings op m v k n e d b h ∙ bytes-mod (bigEndian settings) n (valueAt settings m v / 256 ^ k)
 
 -- PIECE: u above v
-pub moved-both : (big : Bool) (op : Operation) (m : Memory) (u v : Varnode) (n : ℕ) → moves op ≡ true → dropped op ≡ 0 → OfBytes m
-    → valueAt big m u < 256 ^ u .size → valueAt big m v < 256 ^ v .size
-    → bytesWritten big op n (v ∷ u ∷ []) m ≡ bytesOf big n (valueAt big m u * 256 ^ v .size + valueAt big m v)
+pub moved-both : (settings : Settings) (op : Operation) (m : Memory) (u v : Varnode) (n : ℕ) → moves op ≡ true → dropped op ≡ 0 → OfBytes m
+    → valueAt settings m u < 256 ^ u .size → valueAt settings m v < 256 ^ v .size
+    → bytesWritten settings op n (v ∷ u ∷ []) m ≡ bytesOf (bigEndian settings) n (valueAt settings m u * 256 ^ v .size + valueAt settings m v)
 unfolding bytesWritten
-moved-both big op m u v n e d b hu hv = rw (e, d) (two-sources big m u v n b hu hv)
+moved-both settings op m u v n e d b hu hv = rw (e, d) (two-sources settings m u v n b hu hv)

@@ -1,4 +1,4 @@
--- Demand 3 as one claim. Assumes nothing.
+-- Demand 3 as one claim.
 use Prim.Native.Nat.{ℕ}
 use mathlib.Core.Path.{_≡_, refl, sym, ap, _∙_}
 use mathlib.Core.Bool.{Bool, true, false, cond, _&&_}
@@ -11,6 +11,7 @@ use Rattle.operation.specs.declared.layout.Settings.{Settings}
 use Rattle.operation.specs.declared.layout.Lengths.{Lengths}
 use Rattle.operation.specs.declared.report.Report.{Report}
 use Rattle.integer.proofs.Booleans.{both}
+use Rattle.machine.specs.Program.{programOf}
 use Rattle.machine.specs.Memory.{Memory, lengthsOf, spaceOf}
 use Rattle.machine.specs.Run.{Position, Ended, run}
 use Rattle.machine.specs.Calls.{Outcome, sameLengths, labelsInRange, refusal, logAfter, outcomeOf, starting, called, labelledRun, unlabelled, plainRun}
@@ -66,9 +67,9 @@ module _ (settings : Settings) (list : List ℕ) (start budget : ℕ) where
     where
       by : (t : Bool) → (t ≡ true → Spaces Public labels m n)
           → Indistinguishable
-          (cond t (outcomeOf log (run (eqb (settings .order) 1) list budget (starting start (length log)) labels m)) (record { report = refused; memory = m; labels = labels; log = log }))
-          (cond t (outcomeOf log′ (run (eqb (settings .order) 1) list budget (starting start (length log′)) labels n)) (record { report = refused; memory = n; labels = labels; log = log′ }))
-      by true k = rw e (outcome-view log log′ (run-view (eqb (settings .order) 1) list budget (starting start (length log′)) labels m n (k refl)))
+          (cond t (outcomeOf log (run (programOf settings list) budget (starting start (length log)) labels m)) (record { report = refused; memory = m; labels = labels; log = log }))
+          (cond t (outcomeOf log′ (run (programOf settings list) budget (starting start (length log′)) labels n)) (record { report = refused; memory = n; labels = labels; log = log′ }))
+      by true k = rw e (outcome-view log log′ (run-view (programOf settings list) budget (starting start (length log′)) labels m n (k refl)))
       by false k = record { report = refl; log = rw none; labels = refl; memory = l }
 
   labelled-view : (log log′ : List ℕ) → length log ≡ length log′ → (labels m n : Memory) → LowEquivalent labels m n
@@ -107,11 +108,11 @@ module _ (settings : Settings) (list : List ℕ) (start budget : ℕ) where
       lent w l = record { report = refused; memory = m; labels = l; log = w }
 
       runs : List ℕ → Memory → Ended
-      runs w l = run (eqb (settings .order) 1) list budget (starting start (length w)) l m
+      runs w l = run (programOf settings list) budget (starting start (length w)) l m
 
       by : (t : Bool) → (cond t (outcomeOf log (runs log labels)) (lent log labels) .report .ending ≡ 31 → ⊥)
           → PlainAlike (cond t (outcomeOf log (runs log labels)) (lent log labels)) (cond t (outcomeOf log′ (runs log′ unlabelled)) (lent log′ unlabelled))
-      by true ne = rw e (outcome-same log log′ (run-same (eqb (settings .order) 1) list budget (starting start (length log)) labels m ne))
+      by true ne = rw e (outcome-same log log′ (run-same (programOf settings list) budget (starting start (length log)) labels m ne))
       by false ne = record { report = refl; log = rw none refl; memory = refl }
 
   plain-same : (log : List ℕ) (labels m : Memory) → Labelled labels m → (labelledRun settings list start budget log labels m .report .ending ≡ 31 → ⊥)

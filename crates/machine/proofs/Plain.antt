@@ -1,4 +1,4 @@
--- Demand 3, second half: where the labelled run does not end with LEAK, the plain run is the same run. Assumes nothing.
+-- Demand 3, second half: where the labelled run does not end with LEAK, the plain run is the same run.
 use Prim.Native.Nat.{ℕ, zero, suc}
 use mathlib.Core.Path.{_≡_, refl}
 use mathlib.Core.Bool.{Bool, true, false}
@@ -9,6 +9,7 @@ use Rattle.word.specs.Sum.{tabulate}
 use Rattle.word.specs.Word.{part}
 use Rattle.operation.specs.declared.layout.Varnode.{Varnode}
 use Rattle.operation.specs.Layout.{operationCount}
+use Rattle.machine.specs.Program.{Program}
 use Rattle.machine.specs.Memory.{Memory, spaceOf, withSpace, bytesAt, written}
 use Rattle.machine.specs.Effect.{Operation, Kind, operationAt, anySecret, secret}
 use Rattle.machine.specs.Run.{Decision, Position, Ended, Stepped, decided, checked, ended, endingOf, carriedOut, performedAs, performed, stepped, continued, run}
@@ -57,29 +58,29 @@ data SameSteps : Stepped → Stepped → Type 0 where
   halts : {r q : Ended} → SameRun r q → SameSteps (Stepped.halted r) (Stepped.halted q)
   goes : {at : Position} {labels m : Memory} → SameSteps (Stepped.going at unlabelled m) (Stepped.going at labels m)
 
-module _ (big : Bool) (labels m : Memory) where
+module _ (program : Program) (labels m : Memory) where
   ended-same : (e v : ℕ) (at : Position) → SameRun (ended e v at unlabelled m) (ended e v at labels m)
   unfolding ended
   ended-same e v at = record { ending = refl; value = refl; position = refl; memory = refl }
 
   carried-same : (k : Kind) (op : Operation) (at : Position) (x : ℕ) (d : Decision)
-      → SameSteps (carriedOut big k op at unlabelled m x d) (carriedOut big k op at labels m x d)
+      → SameSteps (carriedOut program k op at unlabelled m x d) (carriedOut program k op at labels m x d)
   unfolding carriedOut
   carried-same k op at x (Decision.stop e) = halts (ended-same _ 0 at)
   carried-same k op at x (Decision.exit words d) = halts (ended-same 1 d _)
   carried-same k op at x (Decision.next words i) = rw nothing-written goes
 
   decided-same : (t : Bool) (k : Kind) (op : Operation) (at : Position) (i extent room x : ℕ)
-      → SameSteps (carriedOut big k op at unlabelled m x (decided false k op i extent room x)) (carriedOut big k op at labels m x (decided t k op i extent room x))
+      → SameSteps (carriedOut program k op at unlabelled m x (decided false k op i extent room x)) (carriedOut program k op at labels m x (decided t k op i extent room x))
   unfolding decided carriedOut ended endingOf
   decided-same true k op at i extent room x = leaks refl
   decided-same false k op at i extent room x = carried-same k op at x (checked k op i extent room x)
 
-  stepped-same : (list : List ℕ) (at : Position) → SameSteps (stepped big list at unlabelled m) (stepped big list at labels m)
+  stepped-same : (at : Position) → SameSteps (stepped program at unlabelled m) (stepped program at labels m)
   unfolding stepped performed performedAs
-  stepped-same list at =
+  stepped-same at =
       rw nothing-secret
-      (either₂ SameSteps (ltb (at .index) (operationCount list)) _ _ _ _ (decided-same _ _ (operationAt list (at .index)) at _ _ _ _) (halts (ended-same 0 0 at)))
+      (either₂ SameSteps (ltb (at .index) (operationCount (program .list))) _ _ _ _ (decided-same _ _ (operationAt (program .list) (at .index)) at _ _ _ _) (halts (ended-same 0 0 at)))
 
 continued-same : (f : Position → Memory → Memory → Ended)
     → ((at : Position) (labels m : Memory) → (f at labels m .ending ≡ 31 → ⊥) → SameRun (f at unlabelled m) (f at labels m))
@@ -89,9 +90,9 @@ continued-same f h (leaks e) ne = absurd (ne e)
 continued-same f h (halts t) ne = t
 continued-same f h (goes {at} {labels} {m}) ne = h at labels m ne
 
-pub run-same : (big : Bool) (list : List ℕ) (budget : ℕ) (at : Position) (labels m : Memory)
-    → (run big list budget at labels m .ending ≡ 31 → ⊥) → SameRun (run big list budget at unlabelled m) (run big list budget at labels m)
+pub run-same : (program : Program) (budget : ℕ) (at : Position) (labels m : Memory)
+    → (run program budget at labels m .ending ≡ 31 → ⊥) → SameRun (run program budget at unlabelled m) (run program budget at labels m)
 unfolding run
-run-same big list zero at labels m ne = ended-same big labels m _ 0 at
-run-same big list (suc budget) at labels m ne =
-    continued-same _ (λ at′ l m′ ne′. run-same big list budget at′ l m′ ne′) (stepped-same big labels m list at) ne
+run-same program zero at labels m ne = ended-same program labels m _ 0 at
+run-same program (suc budget) at labels m ne =
+    continued-same _ (λ at′ l m′ ne′. run-same program budget at′ l m′ ne′) (stepped-same program labels m at) ne

@@ -1,4 +1,4 @@
--- The resume law, of the whole plain and the whole labelled run. Assumes nothing.
+-- The resume law, of the whole plain and the whole labelled run.
 use Prim.Native.Nat.{ℕ, _+_, _-_}
 use native.Mathlib.Omega.{arith}
 use mathlib.Core.Path.{_≡_, refl, ap, subst}
@@ -11,13 +11,14 @@ use Rattle.operation.specs.declared.layout.Settings.{Settings}
 use Rattle.operation.specs.declared.layout.Lengths.{Lengths}
 use Rattle.operation.specs.declared.report.Report.{Report}
 use Rattle.validation.specs.Verdict.{nothingRan}
+use Rattle.machine.specs.Program.{programOf}
 use Rattle.machine.specs.Memory.{Memory, lengthsOf}
 use Rattle.machine.specs.Run.{Position, Ended, run, ended}
 use Rattle.machine.specs.Calls.{Outcome, sameLengths, labelsInRange, refusal, logAfter, outcomeOf, starting, called, labelledRun, unlabelled, plainRun}
 use Rattle.machine.specs.Resume.{Summed, unused, PlainResumes, LabelledResumes}
 use Rattle.machine.proofs.Budget.{later, laterEnded, fresh, run-index, run-resumed}
 use Rattle.machine.proofs.Refusals.{refusal-refuses, not-stopped, restarted, accepted-labels}
-use Rattle.machine.proofs.Kept.{started-kept, unlabelled-in-range}
+use Rattle.machine.proofs.Kept.{started-kept}
 
 -- ---- the log
 
@@ -54,13 +55,13 @@ room-left log at e =
 
 called-running : (settings : Settings) (list : List ℕ) (start budget : ℕ) (log : List ℕ) (labels m : Memory)
     → called settings list start budget log labels m (nothingRan 0 0)
-    ≡ outcomeOf log (run (eqb (settings .order) 1) list budget (starting start (length log)) labels m)
+    ≡ outcomeOf log (run (programOf settings list) budget (starting start (length log)) labels m)
 unfolding called nothingRan
 called-running settings list start budget log labels m = refl
 
 module _ (settings : Settings) (list : List ℕ) (start b c : ℕ) (log : List ℕ) (labels m : Memory) where
   abbrev whole : ℕ → Ended
-  whole budget = run (eqb (settings .order) 1) list budget (starting start (length log)) labels m
+  whole budget = run (programOf settings list) budget (starting start (length log)) labels m
 
   -- a second call that is not refused
   resumed-run : whole b .ending ≡ 2 → whole b .position .room + length (whole b .position .log) ≡ length log
@@ -71,9 +72,9 @@ module _ (settings : Settings) (list : List ℕ) (start b c : ℕ) (log : List �
       rw (
         called-running settings list (whole b .position .index) c (drop (length (whole b .position .log)) (logAfter (whole b .position .log) log)) (whole b .labels) (whole b .memory),
         room-left log (whole b .position) k,
-        run-resumed (eqb (settings .order) 1) list b c (starting start (length log)) labels m e,
+        run-resumed (programOf settings list) b c (starting start (length log)) labels m e,
       )
-      (outcome-summed log (whole b) (run (eqb (settings .order) 1) list c (fresh (whole b .position)) (whole b .labels) (whole b .memory)))
+      (outcome-summed log (whole b) (run (programOf settings list) c (fresh (whole b .position)) (whole b .labels) (whole b .memory)))
 
 pub labelled-resumes : LabelledResumes
 unfolding labelledRun called outcomeOf
@@ -86,18 +87,19 @@ labelled-resumes settings list start b c log labels m = by (eqb (refused .ending
     lent = record { report = refused; memory = m; labels = labels; log = log }
 
     runs : ℕ → Outcome
-    runs budget = outcomeOf log (run (eqb (settings .order) 1) list budget (starting start (length log)) labels m)
+    runs budget = outcomeOf log (run (programOf settings list) budget (starting start (length log)) labels m)
 
     by : (t : Bool) → eqb (refused .ending) 0 ≡ t → cond t (runs b) lent .report .ending ≡ 2
         → Summed (cond t (runs b) lent)
         (labelledRun settings list (cond t (runs b) lent .report .index) c (unused (cond t (runs b) lent)) (cond t (runs b) lent .labels) (cond t (runs b) lent .memory))
         (cond t (runs (b + c)) lent)
     by true t e =
-        let r = run (eqb (settings .order) 1) list b (starting start (length log)) labels m in
-        let i = run-index (eqb (settings .order) 1) list b (starting start (length log)) labels m e in
+        let r = run (programOf settings list) b (starting start (length log)) labels m in
+        let i = run-index (programOf settings list) b (starting start (length log)) labels m e in
         let again = restarted settings (lengthsOf m) list start (r .position .index) (sameLengths (lengthsOf labels) (lengthsOf m)) (labelsInRange labels) t i in
-        let k = started-kept (eqb (settings .order) 1) list start b log labels m (accepted-labels settings (lengthsOf m) list start (sameLengths (lengthsOf labels) (lengthsOf m)) (labelsInRange labels) t) in
-        rw (k .memory, k .lengths, k .values, again) (resumed-run settings list start b c log labels m e (k .log))
+        let k = started-kept (programOf settings list) start b log labels m in
+        let valid = accepted-labels settings (lengthsOf m) list start (sameLengths (lengthsOf labels) (lengthsOf m)) (labelsInRange labels) t in
+        rw (k .memory, k .lengths, k .values valid, again) (resumed-run settings list start b c log labels m e (k .log))
     by false t e = absurd (not-stopped (refusal-refuses settings (lengthsOf m) list start (sameLengths (lengthsOf labels) (lengthsOf m)) (labelsInRange labels)) e)
 
 no-length : (l : List ℕ) → length l ≡ 0 → l ≡ []
@@ -105,7 +107,7 @@ no-length [] e = refl
 no-length (x ∷ l) e = absurd (omega (arith, e))
 
 -- labels of no length are no labels
-no-labels : (labels : Memory) → lengthsOf labels ≡ lengthsOf unlabelled → labels ≡ unlabelled
+pub no-labels : (labels : Memory) → lengthsOf labels ≡ lengthsOf unlabelled → labels ≡ unlabelled
 unfolding lengthsOf unlabelled
 no-labels labels e =
     rw (
@@ -125,17 +127,17 @@ plain-resumes settings list start b c log m = by (eqb (refused .ending) 0) refl
     lent = record { report = refused; memory = m; labels = unlabelled; log = log }
 
     runs : ℕ → Outcome
-    runs budget = outcomeOf log (run (eqb (settings .order) 1) list budget (starting start (length log)) unlabelled m)
+    runs budget = outcomeOf log (run (programOf settings list) budget (starting start (length log)) unlabelled m)
 
     by : (t : Bool) → eqb (refused .ending) 0 ≡ t → cond t (runs b) lent .report .ending ≡ 2
         → Summed (cond t (runs b) lent)
         (plainRun settings list (cond t (runs b) lent .report .index) c (unused (cond t (runs b) lent)) (cond t (runs b) lent .memory))
         (cond t (runs (b + c)) lent)
     by true t e =
-        let r = run (eqb (settings .order) 1) list b (starting start (length log)) unlabelled m in
-        let i = run-index (eqb (settings .order) 1) list b (starting start (length log)) unlabelled m e in
+        let r = run (programOf settings list) b (starting start (length log)) unlabelled m in
+        let i = run-index (programOf settings list) b (starting start (length log)) unlabelled m e in
         let again = restarted settings (lengthsOf m) list start (r .position .index) true true t i in
-        let k = started-kept (eqb (settings .order) 1) list start b log unlabelled m unlabelled-in-range in
+        let k = started-kept (programOf settings list) start b log unlabelled m in
         let s = resumed-run settings list start b c log unlabelled m e (k .log) in
         rw (k .memory, again)
         (subst (λ (l : Memory). Summed (runs b)

@@ -1,21 +1,25 @@
--- Demand 3, first half: two low-equivalent memories have runs that cannot be told apart. Assumes nothing.
+-- Demand 3, first half: two low-equivalent memories have runs that cannot be told apart.
 use Prim.Native.Nat.{ℕ, zero, suc}
 use native.Mathlib.Omega.{arith}
 use mathlib.Core.Path.{_≡_, refl, sym, ap, ap₂, _∙_}
 use mathlib.Core.Bool.{Bool, true, false, not}
 use mathlib.Core.List.{List, [], _∷_}
 use borrow.Author.Tests.{eqb-true, not-false}
-use lib.ListN.{length, getD, replicate}
+use lib.ListN.{length, replicate}
 use lib.Dec.{ltb, eqb}
+use Rattle.word.specs.Sum.{tabulate}
+use Rattle.word.specs.Word.{part}
 use Rattle.word.proofs.Sums.{tabulate-length}
 use Rattle.word.proofs.Laws.{part-length, bytes-length}
 use Rattle.integer.specs.Operations.{flag}
 use Rattle.integer.proofs.Booleans.{neither}
+use Rattle.operation.specs.declared.layout.Settings.{Settings}
 use Rattle.operation.specs.declared.layout.Varnode.{Varnode}
 use Rattle.operation.specs.Layout.{operationCount}
+use Rattle.machine.specs.Program.{Program, bigEndian}
 use Rattle.machine.specs.Memory.{Memory, bytesAt, valueAt, ordered, digitsAt}
-use Rattle.machine.specs.Effect.{Operation, Kind, operationAt, guarded, moves, dropped, digitsOf, valuesOf, computed, bytesWritten, anySecret, secret, labelsWritten}
-use Rattle.machine.specs.Run.{Decision, Position, Ended, Stepped, decided, checked, ended, guardedValue, carriedOut, performedAs, performed, stepped, continued, run}
+use Rattle.machine.specs.Effect.{Operation, Kind, operationAt, absent, guarded, tested, moves, dropped, digitsOf, valuesOf, computed, bytesWritten, anySecret, secret, labelsWritten}
+use Rattle.machine.specs.Run.{Decision, Position, Ended, Stepped, decided, checked, ended, testedValue, carriedOut, performedAs, performed, stepped, continued, run}
 use Rattle.machine.proofs.Pointwise.{Each, Spaces, each-length, spaces-space, spaces-at, spaces-written}
 use Rattle.machine.proofs.Cases.{either, either₂}
 
@@ -59,77 +63,105 @@ length-ordered : (big : Bool) (bs : List ℕ) → length (ordered big bs) ≡ le
 unfolding ordered
 length-ordered big bs = tabulate-length (length bs) _
 
-length-written : (big : Bool) (op : Operation) (n : ℕ) (vs : List Varnode) (m : Memory) → length (bytesWritten big op n vs m) ≡ n
+absent-bytes : (labels : Memory) → anySecret (bytesAt labels absent) ≡ false
+unfolding anySecret bytesAt absent part tabulate
+absent-bytes labels = refl
+
+-- what is tested is public where all that must be public is
+tested-public : (labels : Memory) (k : Kind) (op : Operation) → secret labels (guarded k op) ≡ false → anySecret (bytesAt labels (tested k op)) ≡ false
+unfolding guarded tested secret
+tested-public labels Kind.load op h = neither (anySecret (bytesAt labels (op .input1))) false h .0
+tested-public labels Kind.store op h = neither (anySecret (bytesAt labels (op .input1))) false h .0
+tested-public labels Kind.cbranch op h = neither (anySecret (bytesAt labels (op .input1))) false h .0
+tested-public labels Kind.jump op h = neither (anySecret (bytesAt labels (op .input0))) false h .0
+tested-public labels Kind.divide op h = neither (anySecret (bytesAt labels (op .input1))) false h .0
+tested-public labels Kind.copy op h = absent-bytes labels
+tested-public labels Kind.branch op h = absent-bytes labels
+tested-public labels Kind.piece op h = absent-bytes labels
+tested-public labels Kind.subpiece op h = absent-bytes labels
+tested-public labels Kind.compute op h = absent-bytes labels
+
+length-written : (settings : Settings) (op : Operation) (n : ℕ) (vs : List Varnode) (m : Memory) → length (bytesWritten settings op n vs m) ≡ n
 unfolding bytesWritten
-length-written big op n vs m =
-    either (λ (l : List ℕ). length l ≡ n) (moves op) _ _ (length-ordered big _ ∙ part-length (digitsOf big m vs) (dropped op) n) (bytes-length big n (computed op (valuesOf big m vs)))
+length-written settings op n vs m =
+    either (λ (l : List ℕ). length l ≡ n) (moves op) _ _
+    (length-ordered (bigEndian settings) _ ∙ part-length (digitsOf settings m vs) (dropped op) n)
+    (bytes-length (bigEndian settings) n (computed op (valuesOf settings m vs)))
 
 module _ {labels m n : Memory} (r : Spaces Public labels m n) where
   public-bytes : (v : Varnode) → anySecret (bytesAt labels v) ≡ false → bytesAt m v ≡ bytesAt n v
   public-bytes v h = public-same (spaces-at (λ e. refl) r v) h
 
-  public-digits : (big : Bool) (vs : List Varnode) → secret labels vs ≡ false → digitsOf big m vs ≡ digitsOf big n vs
+  public-digits : (settings : Settings) (vs : List Varnode) → secret labels vs ≡ false → digitsOf settings m vs ≡ digitsOf settings n vs
   unfolding digitsOf digitsAt secret
-  public-digits big [] h = refl
-  public-digits big (v ∷ vs) h =
+  public-digits settings [] h = refl
+  public-digits settings (v ∷ vs) h =
       let e = neither (anySecret (bytesAt labels v)) (secret labels vs) h in
-      rw (public-bytes v (e .0), public-digits big vs (e .1))
+      rw (public-bytes v (e .0), public-digits settings vs (e .1))
 
-  public-values : (big : Bool) (vs : List Varnode) → secret labels vs ≡ false → valuesOf big m vs ≡ valuesOf big n vs
-  unfolding valuesOf valueAt secret
-  public-values big [] h = refl
-  public-values big (v ∷ vs) h =
+  public-value : (settings : Settings) (v : Varnode) → anySecret (bytesAt labels v) ≡ false → valueAt settings m v ≡ valueAt settings n v
+  unfolding valueAt
+  public-value settings v h = rw (public-bytes v h)
+
+  public-values : (settings : Settings) (vs : List Varnode) → secret labels vs ≡ false → valuesOf settings m vs ≡ valuesOf settings n vs
+  unfolding valuesOf secret
+  public-values settings [] h = refl
+  public-values settings (v ∷ vs) h =
       let e = neither (anySecret (bytesAt labels v)) (secret labels vs) h in
-      rw (public-bytes v (e .0), public-values big vs (e .1))
+      rw (public-value settings v (e .0), public-values settings vs (e .1))
+
+  public-tested : (settings : Settings) (k : Kind) (op : Operation) → secret labels (guarded k op) ≡ false
+      → valueAt settings m (tested k op) ≡ valueAt settings n (tested k op)
+  public-tested settings k op h = public-value settings (tested k op) (tested-public labels k op h)
 
   -- ---- one operation
 
-  public-written : (big : Bool) (op : Operation) (size : ℕ) (vs : List Varnode) → secret labels vs ≡ false
-      → bytesWritten big op size vs m ≡ bytesWritten big op size vs n
+  public-written : (settings : Settings) (op : Operation) (size : ℕ) (vs : List Varnode) → secret labels vs ≡ false
+      → bytesWritten settings op size vs m ≡ bytesWritten settings op size vs n
   unfolding bytesWritten
-  public-written big op size vs h = rw (public-values big vs h, public-digits big vs h)
+  public-written settings op size vs h = rw (public-values settings vs h, public-digits settings vs h)
 
-  written-view : (big : Bool) (op : Operation) (size : ℕ) (vs : List Varnode)
-      → Each Public (labelsWritten size vs labels) (bytesWritten big op size vs m) (bytesWritten big op size vs n)
+  written-view : (settings : Settings) (op : Operation) (size : ℕ) (vs : List Varnode)
+      → Each Public (labelsWritten size vs labels) (bytesWritten settings op size vs m) (bytesWritten settings op size vs n)
   unfolding labelsWritten
-  written-view big op size vs =
-      let l = length-written big op size vs m in
-      let w = whole (secret labels vs) (bytesWritten big op size vs m) (bytesWritten big op size vs n)
-      (l ∙ sym (length-written big op size vs n)) (public-written big op size vs) in
+  written-view settings op size vs =
+      let l = length-written settings op size vs m in
+      let w = whole (secret labels vs) (bytesWritten settings op size vs m) (bytesWritten settings op size vs n)
+      (l ∙ sym (length-written settings op size vs n)) (public-written settings op size vs) in
       rw l at w
 
 data SameSteps : Stepped → Stepped → Type 0 where
   halts : {r q : Ended} → SameView r q → SameSteps (Stepped.halted r) (Stepped.halted q)
   goes : {at : Position} {labels m n : Memory} → Spaces Public labels m n → SameSteps (Stepped.going at labels m) (Stepped.going at labels n)
 
-module _ (big : Bool) {labels m n : Memory} (r : Spaces Public labels m n) where
+module _ (program : Program) {labels m n : Memory} (r : Spaces Public labels m n) where
   ended-view : (e v : ℕ) (at : Position) → SameView (ended e v at labels m) (ended e v at labels n)
   unfolding ended
   ended-view e v at = record { ending = refl; value = refl; position = refl; labels = refl; memory = r }
 
   carried-view : (k : Kind) (op : Operation) (at : Position) (x : ℕ) (d : Decision)
-      → SameSteps (carriedOut big k op at labels m x d) (carriedOut big k op at labels n x d)
+      → SameSteps (carriedOut program k op at labels m x d) (carriedOut program k op at labels n x d)
   unfolding carriedOut
   carried-view k op at x (Decision.stop e) = halts (ended-view _ 0 at)
   carried-view k op at x (Decision.exit words d) = halts (ended-view 1 d _)
-  carried-view k op at x (Decision.next words i) = goes (spaces-written r _ (written-view r big op _ _))
+  carried-view k op at x (Decision.next words i) = goes (spaces-written r _ (written-view r (program .settings) op _ _))
 
-  -- what follows from the value of what must be public is the same where it is public, and is LEAK where it is not
+  -- what follows from the value tested is the same where it is public, and is LEAK where it is not
   decided-view : (t : Bool) (k : Kind) (op : Operation) (at : Position) (i extent room x y : ℕ) → (t ≡ false → x ≡ y)
-      → SameSteps (carriedOut big k op at labels m x (decided t k op i extent room x)) (carriedOut big k op at labels n y (decided t k op i extent room y))
+      → SameSteps (carriedOut program k op at labels m x (decided t k op i extent room x)) (carriedOut program k op at labels n y (decided t k op i extent room y))
   unfolding decided carriedOut
   decided-view true k op at i extent room x y h = halts (ended-view _ 0 at)
   decided-view false k op at i extent room x y h = rw (h refl) (carried-view k op at y (checked k op i extent room y))
 
-  performed-view : (k : Kind) (op : Operation) (at : Position) → SameSteps (performedAs big k op at labels m) (performedAs big k op at labels n)
-  unfolding performedAs guardedValue
+  performed-view : (k : Kind) (op : Operation) (at : Position) → SameSteps (performedAs program k op at labels m) (performedAs program k op at labels n)
+  unfolding performedAs testedValue
   performed-view k op at =
       rw (each-length (spaces-space r (op .input0 .offset)))
-      (decided-view (secret labels (guarded k op)) k op at _ _ _ _ _ (λ h. ap (λ (vs : List ℕ). getD vs 0 0) (public-values r big (guarded k op) h)))
+      (decided-view (secret labels (guarded k op)) k op at _ _ _ _ _ (public-tested r (program .settings) k op))
 
-  stepped-view : (list : List ℕ) (at : Position) → SameSteps (stepped big list at labels m) (stepped big list at labels n)
+  stepped-view : (at : Position) → SameSteps (stepped program at labels m) (stepped program at labels n)
   unfolding stepped performed
-  stepped-view list at = either₂ SameSteps (ltb (at .index) (operationCount list)) _ _ _ _ (performed-view _ (operationAt list (at .index)) at) (halts (ended-view 0 0 at))
+  stepped-view at = either₂ SameSteps (ltb (at .index) (operationCount (program .list))) _ _ _ _ (performed-view _ (operationAt (program .list) (at .index)) at) (halts (ended-view 0 0 at))
 
 -- ---- the run
 
@@ -139,9 +171,9 @@ unfolding continued
 continued-view f h (halts t) = t
 continued-view f h (goes {at} {labels} {m} {n} r) = h at labels m n r
 
-pub run-view : (big : Bool) (list : List ℕ) (budget : ℕ) (at : Position) (labels m n : Memory) → Spaces Public labels m n
-    → SameView (run big list budget at labels m) (run big list budget at labels n)
+pub run-view : (program : Program) (budget : ℕ) (at : Position) (labels m n : Memory) → Spaces Public labels m n
+    → SameView (run program budget at labels m) (run program budget at labels n)
 unfolding run
-run-view big list zero at labels m n r = ended-view big r _ 0 at
-run-view big list (suc budget) at labels m n r =
-    continued-view _ (λ at′ labels′ m′ n′ r′. run-view big list budget at′ labels′ m′ n′ r′) (stepped-view big r list at)
+run-view program zero at labels m n r = ended-view program r _ 0 at
+run-view program (suc budget) at labels m n r =
+    continued-view _ (λ at′ labels′ m′ n′ r′. run-view program budget at′ labels′ m′ n′ r′) (stepped-view program r at)

@@ -9,6 +9,7 @@ use Rattle.operation.specs.declared.layout.Lengths.{Lengths}
 use Rattle.operation.specs.declared.report.Report.{Report}
 use Rattle.operation.specs.Layout.{operationCount}
 use Rattle.validation.specs.Verdict.{settingsInRange, lengthsInRange, malformed, nothingRan}
+use Rattle.machine.specs.Program.{programOf}
 use Rattle.machine.specs.Memory.{Memory, lengthsOf}
 use Rattle.machine.specs.Run.{Position, Ended, run}
 
@@ -83,11 +84,11 @@ outcomeOf log r =
 unfoldable pub starting : (start room : ℕ) → Position
 starting start room = record { index = start; room = room; executed = 0; log = [] }
 
--- A refusal changes no lent buffer. Byte order 0 is little, 1 is big.
+-- A refusal changes no lent buffer.
 unfoldable pub called : Settings → (list : List ℕ) → (start budget : ℕ) → (log : List ℕ) → (labels memory : Memory) → (refused : Report) → Outcome
 called settings list start budget log labels m refused =
     cond (eqb (refused .ending) 0)
-    (outcomeOf log (run (eqb (settings .order) 1) list budget (starting start (length log)) labels m))
+    (outcomeOf log (run (programOf settings list) budget (starting start (length log)) labels m))
     (record { report = refused; memory = m; labels = labels; log = log })
 
 -- The labelled run, with the refusals that its labels call for.

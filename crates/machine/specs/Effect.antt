@@ -8,9 +8,11 @@ use Rattle.word.specs.Word.{part, bytesOf}
 use Rattle.integer.specs.Operations.{flag}
 use Rattle.arithmetic.specs.Operands.{among, divides}
 use Rattle.arithmetic.specs.Result.{result}
+use Rattle.operation.specs.declared.layout.Settings.{Settings}
 use Rattle.operation.specs.declared.layout.Varnode.{Varnode}
 use Rattle.operation.specs.Layout.{opcodeAt, varnodeAt}
 use Rattle.operation.specs.Rules.{branches, jumps}
+use Rattle.machine.specs.Program.{bigEndian}
 use Rattle.machine.specs.Memory.{Memory, bytesAt, valueAt, ordered, digitsAt}
 
 -- ---- operations
@@ -59,7 +61,7 @@ kindOf opcode =
 
 -- ---- what must be public: 'LEAK: a secret byte in ..'
 
--- The varnodes that must be public.
+-- The varnodes that must be public, none, one or more.
 unfoldable pub guarded : Kind → Operation → List Varnode
 -- the pointer of LOAD or STORE,
 guarded load op = op .input1 ∷ []
@@ -76,9 +78,23 @@ guarded piece op = []
 guarded subpiece op = []
 guarded compute op = []
 
+-- The varnode whose value decides what happens: the pointer, the condition, the destination or the divisor. It is among those that must be
+-- public; where nothing is decided it is absent.
+unfoldable pub tested : Kind → Operation → Varnode
+tested load op = op .input1
+tested store op = op .input1
+tested cbranch op = op .input1
+tested jump op = op .input0
+tested divide op = op .input1
+tested copy op = absent
+tested branch op = absent
+tested piece op = absent
+tested subpiece op = absent
+tested compute op = absent
+
 -- ---- what is read for the value written, and where that value goes; `pointer` is the value of LOAD's or STORE's input1
 
--- The bytes that LOAD loads or STORE stores to, in the space that input0 names.
+-- The bytes at a pointer, which LOAD loads or STORE stores to, in the space that input0 names.
 unfoldable pub pointed : Operation → (pointer size : ℕ) → Varnode
 pointed op pointer size = record { space = op .input0 .offset; offset = pointer; size = size }
 
@@ -119,14 +135,14 @@ unfoldable pub dropped : Operation → ℕ
 dropped op = cond (eqb (op .opcode) 11) (op .input1 .offset) 0
 
 -- The bytes of some varnodes, the least significant first, one varnode after the other.
-unfoldable pub digitsOf : (big : Bool) → Memory → List Varnode → List ℕ
-digitsOf big m [] = []
-digitsOf big m (v ∷ vs) = digitsAt big m v ++ digitsOf big m vs
+unfoldable pub digitsOf : Settings → Memory → List Varnode → List ℕ
+digitsOf settings m [] = []
+digitsOf settings m (v ∷ vs) = digitsAt settings m v ++ digitsOf settings m vs
 
 -- The values of some varnodes.
-unfoldable pub valuesOf : (big : Bool) → Memory → List Varnode → List ℕ
-valuesOf big m [] = []
-valuesOf big m (v ∷ vs) = valueAt big m v ∷ valuesOf big m vs
+unfoldable pub valuesOf : Settings → Memory → List Varnode → List ℕ
+valuesOf settings m [] = []
+valuesOf settings m (v ∷ vs) = valueAt settings m v ∷ valuesOf settings m vs
 
 -- The number that an operation computes from the values of its inputs.
 unfoldable pub computed : Operation → (values : List ℕ) → ℕ
@@ -134,11 +150,11 @@ computed op values =
     result (op .opcode) (op .output .size) (op .input0 .size) (op .input1 .size) (getD values 0 0) (getD values 1 0)
 
 -- The bytes that an operation writes to its target of `size` bytes, in memory order; missing high bytes are 0.
-unfoldable pub bytesWritten : (big : Bool) → Operation → (size : ℕ) → List Varnode → Memory → List ℕ
-bytesWritten big op size vs m =
+unfoldable pub bytesWritten : Settings → Operation → (size : ℕ) → List Varnode → Memory → List ℕ
+bytesWritten settings op size vs m =
     cond (moves op)
-    (ordered big (part (digitsOf big m vs) (dropped op) size))
-    (bytesOf big size (computed op (valuesOf big m vs)))
+    (ordered (bigEndian settings) (part (digitsOf settings m vs) (dropped op) size))
+    (bytesOf (bigEndian settings) size (computed op (valuesOf settings m vs)))
 
 -- ---- the labels written
 

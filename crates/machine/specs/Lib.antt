@@ -1,3 +1,4 @@
+pub mod Program
 pub mod Memory
 pub mod Effect
 pub mod Run

@@ -1,10 +1,10 @@
 -- What paper 01 says of stops, counts and log words, of the whole plain and the whole labelled run.
 use Prim.Native.Nat.{ℕ, zero, suc, _-_, _≤_}
-use mathlib.Core.Bool.{Bool}
 use mathlib.Core.List.{List}
 use mathlib.Core.Path.{_≡_}
 use lib.ListN.{length}
 use Rattle.operation.specs.declared.layout.Settings.{Settings}
+use Rattle.machine.specs.Program.{Program}
 use Rattle.machine.specs.Memory.{Memory}
 use Rattle.machine.specs.Run.{Position, Ended, Stepped, stepped, run}
 use Rattle.machine.specs.Calls.{Outcome, unlabelled, labelledRun, plainRun}
@@ -27,10 +27,10 @@ pub record Limited (budget : ℕ) (log : List ℕ) (o : Outcome) : Type 0 where
   pub sameLength : length (o .log) ≡ length log
 
 -- The state after k single operations, each from where the one before it went on.
-unfoldable pub afterOperations : (big : Bool) (list : List ℕ) → ℕ → Stepped → Stepped
-afterOperations big list zero s = s
-afterOperations big list (suc k) (Stepped.halted r) = Stepped.halted r
-afterOperations big list (suc k) (Stepped.going at labels m) = afterOperations big list k (stepped big list at labels m)
+unfoldable pub afterOperations : Program → ℕ → Stepped → Stepped
+afterOperations program zero s = s
+afterOperations program (suc k) (Stepped.halted r) = Stepped.halted r
+afterOperations program (suc k) (Stepped.going at labels m) = afterOperations program k (stepped program at labels m)
 
 -- Position, labels and memory, whether the run ended or goes on.
 unfoldable pub stateOf : Stepped → Position × Memory × Memory
@@ -52,9 +52,9 @@ pub record Limits : Type 0 where
   pub plainLimited : (settings : Settings) (list : List ℕ) (start budget : ℕ) (log : List ℕ) (m : Memory)
       → Limited budget log (plainRun settings list start budget log m)
   -- A stopped operation, 31 to 34, writes nothing and isn't counted.
-  pub stoppedOperation : (big : Bool) (list : List ℕ) (at : Position) (labels m : Memory) (r : Ended)
-      → stepped big list at labels m ≡ Stepped.halted r → 31 ≤ r .ending → (r .position ≡ at) × (r .labels ≡ labels) × (r .memory ≡ m)
+  pub stoppedOperation : (program : Program) (at : Position) (labels m : Memory) (r : Ended)
+      → stepped program at labels m ≡ Stepped.halted r → 31 ≤ r .ending → (r .position ≡ at) × (r .labels ≡ labels) × (r .memory ≡ m)
   -- The state after a run is that after as many single operations as it executed.
-  pub countedOperations : (big : Bool) (list : List ℕ) (budget : ℕ) (at : Position) (labels m : Memory)
-      → (let r = run big list budget at labels m in
-      stateOf (afterOperations big list (r .position .executed - at .executed) (Stepped.going at labels m)) ≡ (r .position, r .labels, r .memory))
+  pub countedOperations : (program : Program) (budget : ℕ) (at : Position) (labels m : Memory)
+      → (let r = run program budget at labels m in
+      stateOf (afterOperations program (r .position .executed - at .executed) (Stepped.going at labels m)) ≡ (r .position, r .labels, r .memory))

@@ -8,7 +8,9 @@ use lib.Seq.{sets}
 use Rattle.word.specs.Sum.{tabulate}
 use Rattle.word.specs.Word.{Bytes, part, significance, valueOf, bytesOf}
 use Rattle.operation.specs.declared.layout.Varnode.{Varnode}
+use Rattle.operation.specs.declared.layout.Settings.{Settings}
 use Rattle.operation.specs.declared.layout.Lengths.{Lengths}
+use Rattle.machine.specs.Program.{bigEndian}
 
 -- The bytes of spaces 2 to 4; a set of labels has the same form, with a label for each byte.
 pub record Memory : Type 0 where
@@ -48,13 +50,13 @@ unfoldable pub written : Memory → Varnode → List ℕ → Memory
 written m v bs = withSpace m (v .space) (sets (spaceOf m (v .space)) (v .offset) bs)
 
 -- A varnode's value. A constant's value is its offset.
-unfoldable pub valueAt : (big : Bool) → Memory → Varnode → ℕ
-valueAt big m v = cond (eqb (v .space) 1) (v .offset) (valueOf big (bytesAt m v))
+unfoldable pub valueAt : Settings → Memory → Varnode → ℕ
+valueAt settings m v = cond (eqb (v .space) 1) (v .offset) (valueOf (bigEndian settings) (bytesAt m v))
 
 -- Bytes in memory order as bytes by significance, the least significant first; and the other way round.
 unfoldable pub ordered : (big : Bool) → List ℕ → List ℕ
 ordered big bs = tabulate (length bs) (λ i. getD bs (significance big (length bs) i) 0)
 
 -- A varnode's bytes, the least significant first.
-unfoldable pub digitsAt : (big : Bool) → Memory → Varnode → List ℕ
-digitsAt big m v = cond (eqb (v .space) 1) (bytesOf false (v .size) (v .offset)) (ordered big (bytesAt m v))
+unfoldable pub digitsAt : Settings → Memory → Varnode → List ℕ
+digitsAt settings m v = cond (eqb (v .space) 1) (bytesOf false (v .size) (v .offset)) (ordered (bigEndian settings) (bytesAt m v))

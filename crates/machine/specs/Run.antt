@@ -4,12 +4,13 @@ use mathlib.Core.Bool.{Bool, cond}
 use mathlib.Core.List.{List, [], _∷_, _++_}
 use lib.Dec.{eqb, ltb, leb}
 use lib.IntN.{ℤ, pos, negsuc}
-use lib.ListN.{length, getD}
+use lib.ListN.{length}
 use Rattle.operation.specs.declared.layout.Varnode.{Varnode}
 use Rattle.operation.specs.Layout.{operationCount}
 use Rattle.operation.specs.Rules.{relativeTarget}
-use Rattle.machine.specs.Memory.{Memory, spaceOf, written}
-use Rattle.machine.specs.Effect.{Operation, operationAt, Kind, kindOf, guarded, sources, target, valuesOf, bytesWritten, secret, labelsWritten}
+use Rattle.machine.specs.Program.{Program}
+use Rattle.machine.specs.Memory.{Memory, spaceOf, valueAt, written}
+use Rattle.machine.specs.Effect.{Operation, operationAt, Kind, kindOf, guarded, tested, sources, target, bytesWritten, secret, labelsWritten}
 
 -- ---- what is decided before anything is written
 
@@ -53,7 +54,7 @@ unfoldable pub access : (i extent room pointer size : ℕ) → Decision
 access i extent room pointer size =
     cond (leb (pointer + size) extent) (logging room (logWord i pointer) (λ words. next words (suc i))) (stop bounds)
 
--- BOUNDS, then ZERO divisor, then LOG, for an operation at index i; `value` is that of what must be public.
+-- BOUNDS, then ZERO divisor, then LOG, for an operation at index i; `value` is that of the varnode tested.
 unfoldable pub checked : Kind → Operation → (i extent room value : ℕ) → Decision
 checked Kind.copy op i extent room value = next [] (suc i)
 checked Kind.load op i extent room value = access i extent room value (op .output .size)
@@ -67,7 +68,7 @@ checked Kind.subpiece op i extent room value = next [] (suc i)
 checked Kind.divide op i extent room value = cond (eqb value 0) (stop zeroDivisor) (next [] (suc i))
 checked Kind.compute op i extent room value = next [] (suc i)
 
--- LEAK comes before all that depends on the value of what must be public.
+-- LEAK comes before all that depends on the value tested.
 unfoldable pub decided : (leaks : Bool) → Kind → Operation → (i extent room value : ℕ) → Decision
 decided leaks k op i extent room value = cond leaks (stop leak) (checked k op i extent room value)
 
@@ -102,37 +103,37 @@ advanced at i words =
 unfoldable pub ended : (ending value : ℕ) → Position → (labels memory : Memory) → Ended
 ended e v at labels m = record { ending = e; value = v; position = at; labels = labels; memory = m }
 
--- The value of what must be public; 0 where an operation has nothing such.
-unfoldable pub guardedValue : (big : Bool) → Kind → Operation → Memory → ℕ
-guardedValue big k op m = getD (valuesOf big m (guarded k op)) 0 0
+-- The value of the varnode tested; 0 where nothing is.
+unfoldable pub testedValue : Program → Kind → Operation → Memory → ℕ
+testedValue program k op m = valueAt (program .settings) m (tested k op)
 
 -- A stopped operation writes nothing and isn't counted; an exiting operation is counted. All is read from the memory and the labels
--- before the operation. `value` is that of what must be public.
-unfoldable pub carriedOut : (big : Bool) → Kind → Operation → Position → (labels memory : Memory) → (value : ℕ) → Decision → Stepped
-carriedOut big k op at labels m value (stop e) = halted (ended (endingOf e) 0 at labels m)
-carriedOut big k op at labels m value (exit words d) = halted (ended 1 d (advanced at (at .index) words) labels m)
-carriedOut big k op at labels m value (next words i) =
+-- before the operation. `value` is that of the varnode tested.
+unfoldable pub carriedOut : Program → Kind → Operation → Position → (labels memory : Memory) → (value : ℕ) → Decision → Stepped
+carriedOut program k op at labels m value (stop e) = halted (ended (endingOf e) 0 at labels m)
+carriedOut program k op at labels m value (exit words d) = halted (ended 1 d (advanced at (at .index) words) labels m)
+carriedOut program k op at labels m value (next words i) =
     going (advanced at i words)
     (written labels (target k op value) (labelsWritten (target k op value .size) (sources k op value) labels))
-    (written m (target k op value) (bytesWritten big op (target k op value .size) (sources k op value) m))
+    (written m (target k op value) (bytesWritten (program .settings) op (target k op value .size) (sources k op value) m))
 
 -- One operation of a kind: what must be public is looked at first.
--- One operation.
-unfoldable pub performedAs : (big : Bool) → Kind → Operation → Position → (labels memory : Memory) → Stepped
-performedAs big k op at labels m =
-    carriedOut big k op at labels m (guardedValue big k op m)
-    (decided (secret labels (guarded k op)) k op (at .index) (length (spaceOf m (op .input0 .offset))) (at .room) (guardedValue big k op m))
+unfoldable pub performedAs : Program → Kind → Operation → Position → (labels memory : Memory) → Stepped
+performedAs program k op at labels m =
+    carriedOut program k op at labels m (testedValue program k op m)
+    (decided (secret labels (guarded k op)) k op (at .index) (length (spaceOf m (op .input0 .offset))) (at .room) (testedValue program k op m))
 
-unfoldable pub performed : (big : Bool) → Operation → Position → (labels memory : Memory) → Stepped
-performed big op at labels m = performedAs big (kindOf (op .opcode)) op at labels m
+-- One operation.
+unfoldable pub performed : Program → Operation → Position → (labels memory : Memory) → Stepped
+performed program op at labels m = performedAs program (kindOf (op .opcode)) op at labels m
 
 -- ---- the run
 
 -- At n, END; else the operation.
-unfoldable pub stepped : (big : Bool) → (list : List ℕ) → Position → (labels memory : Memory) → Stepped
-stepped big list at labels m =
-    cond (ltb (at .index) (operationCount list))
-    (performed big (operationAt list (at .index)) at labels m)
+unfoldable pub stepped : Program → Position → (labels memory : Memory) → Stepped
+stepped program at labels m =
+    cond (ltb (at .index) (operationCount (program .list)))
+    (performed program (operationAt (program .list) (at .index)) at labels m)
     (halted (ended 0 0 at labels m))
 
 -- What a run does after one operation.
@@ -141,6 +142,6 @@ continued f (halted r) = r
 continued f (going at labels m) = f at labels m
 
 -- A run with a budget, from a position: at n, END; count equals budget, BUDGET.
-unfoldable pub run : (big : Bool) → (list : List ℕ) → (budget : ℕ) → Position → (labels memory : Memory) → Ended
-run big list zero at labels m = ended (cond (ltb (at .index) (operationCount list)) 2 0) 0 at labels m
-run big list (suc budget) at labels m = continued (run big list budget) (stepped big list at labels m)
+unfoldable pub run : Program → (budget : ℕ) → Position → (labels memory : Memory) → Ended
+run program zero at labels m = ended (cond (ltb (at .index) (operationCount (program .list))) 2 0) 0 at labels m
+run program (suc budget) at labels m = continued (run program budget) (stepped program at labels m)

@@ -1,8 +1,8 @@
--- A varnode in the space n, 2 to 4, and a varnode in none of them. Assumes nothing.
+-- A varnode in the space n, 2 to 4, and a varnode in none of them.
 use Prim.Native.Nat.{ℕ, zero, suc, _+_, _≤_}
 use mathlib.Core.Path.{_≡_, refl, subst}
 use mathlib.Core.Logic.{_⊎_, inl, inr, ⊎-elim}
-use mathlib.Core.Bool.{Bool, false}
+use mathlib.Core.Bool.{false}
 use mathlib.Core.List.{List}
 use native.Mathlib.Omega.{arith}
 use borrow.Author.Tests.{eq-eqb, ne-eqb}
@@ -10,7 +10,9 @@ use lib.ListN.{length}
 use lib.Seq.{sets}
 use Rattle.word.specs.Sum.{sum, tabulate}
 use Rattle.word.specs.Word.{part, valueOf}
+use Rattle.operation.specs.declared.layout.Settings.{Settings}
 use Rattle.operation.specs.declared.layout.Varnode.{Varnode}
+use Rattle.machine.specs.Program.{bigEndian}
 use Rattle.machine.specs.Memory.{Memory, spaceOf, bytesAt, valueAt, withSpace, written}
 use Rattle.machine.specs.Effect.{anySecret, absent}
 use Rattle.machine.specs.Conditions.{hasSecret}
@@ -22,9 +24,9 @@ module _ (m : Memory) (v : Varnode) (n : ℕ) (e : v .space ≡ n) where
   pub placed-in : 2 ≤ n → Placed m v → v .offset + v .size ≤ length (spaceOf m n)
   placed-in h p = subst (λ (k : ℕ). v .offset + v .size ≤ length (spaceOf m k)) e (p .within (rw e h))
 
-  pub value-in : 2 ≤ n → (big : Bool) → valueAt big m v ≡ valueOf big (part (spaceOf m n) (v .offset) (v .size))
+  pub value-in : 2 ≤ n → (settings : Settings) → valueAt settings m v ≡ valueOf (bigEndian settings) (part (spaceOf m n) (v .offset) (v .size))
   unfolding valueAt bytesAt
-  value-in h big = rw (e, ne-eqb n 1 (λ z. omega arith))
+  value-in h settings = rw (e, ne-eqb n 1 (λ z. omega arith))
 
   pub secret-in : 2 ≤ n → hasSecret m v ≡ anySecret (part (spaceOf m n) (v .offset) (v .size))
   unfolding hasSecret bytesAt
@@ -46,9 +48,9 @@ module _ (m : Memory) (v : Varnode) (not2 : v .space ≡ 2 → ⊥) (not3 : v .s
       by (suc zero) e = inl e
       by (suc (suc n)) e = absurd (let h : v .space ≤ 4 = p .known in let z : ⊥ = omega arith in z)
 
-  pub value-elsewhere : Placed m v → (big : Bool) → valueAt big m v ≡ v .offset
+  pub value-elsewhere : Placed m v → (settings : Settings) → valueAt settings m v ≡ v .offset
   unfolding valueAt bytesAt part valueOf sum tabulate absent
-  value-elsewhere p big = ⊎-elim (λ e. rw (eq-eqb (v .space) 1 e)) (λ e. rw e) (elsewhere p)
+  value-elsewhere p settings = ⊎-elim (λ e. rw (eq-eqb (v .space) 1 e)) (λ e. rw e) (elsewhere p)
 
   pub secret-elsewhere : Placed m v → hasSecret m v ≡ false
   unfolding hasSecret bytesAt part tabulate anySecret absent

@@ -2,16 +2,24 @@
 ghost use mathlib.Core.Path.{_≡_};
 ghost use Prim.Native.Nat.{_≤_};
 ghost use Rattle.word.specs.Word.{bytesOf};
+ghost use Rattle.machine.specs.Program.{bigEndian};
 ghost use Rattle.machine.specs.Memory.{spaces, spaceOf, valueAt, written};
 ghost use Rattle.memory.specs.Placed.{Placed};
+use operation::layout::Settings;
 use operation::layout::Varnode;
 use word::bytes::gather;
 use word::bytes::scatter;
 
 // The value of a varnode; an absent one has 0.
-pub fn read<'a>(big: bool, unique: &'a [u8], register: &'a [u8], ram: &'a [u8], v: Varnode) -> u64
+pub fn read<'a>(
+    settings: Settings,
+    unique: &'a [u8],
+    register: &'a [u8],
+    ram: &'a [u8],
+    v: Varnode,
+) -> u64
     requires { ⌜ Placed (spaces (now unique) (now register) (now ram)) v ⌝ }
-    ensures { λ r. ⌜ r ≡ valueAt big (spaces (now (unique .entry)) (now (register .entry)) (now (ram .entry))) v ⌝ }
+    ensures { λ r. ⌜ r ≡ valueAt settings (spaces (now (unique .entry)) (now (register .entry)) (now (ram .entry))) v ⌝ }
 {
     if v.space < 2 {
         return v.offset;
@@ -19,7 +27,7 @@ pub fn read<'a>(big: bool, unique: &'a [u8], register: &'a [u8], ram: &'a [u8], 
     let bytes = space_of(unique, register, ram, v.space);
     let at = v.offset as usize;
     let size = v.size as usize;
-    gather(big, bytes, at, size)
+    gather(settings.order == 1, bytes, at, size)
 }
 
 // The bytes of a space with bytes, by its number.
@@ -36,7 +44,7 @@ fn space_of<'a>(unique: &'a [u8], register: &'a [u8], ram: &'a [u8], space: u64)
 
 // Writes a value to a varnode; to an absent one, nothing.
 pub fn write(
-    big: bool,
+    settings: Settings,
     unique: &mut [u8],
     register: &mut [u8],
     ram: &mut [u8],
@@ -45,8 +53,9 @@ pub fn write(
 )
     requires { ⌜ Placed (spaces (now unique) (now register) (now ram)) v ⌝ }
     ensures { λ _. ⌜ spaces (now (unique .exit)) (now (register .exit)) (now (ram .exit))
-        ≡ written (spaces (now (unique .entry)) (now (register .entry)) (now (ram .entry))) v (bytesOf big (v .size) value) ⌝ }
+        ≡ written (spaces (now (unique .entry)) (now (register .entry)) (now (ram .entry))) v (bytesOf (bigEndian settings) (v .size) value) ⌝ }
 {
+    let big = settings.order == 1;
     let space = v.space;
     let at = v.offset as usize;
     let size = v.size as usize;

@@ -1,29 +1,32 @@
--- What a plan keeps within: its next index, its target and its log word. Assumes nothing.
+-- What a plan keeps within: its next index, its target and its log word.
 use Prim.Native.Nat.{ℕ, suc, _+_, _%_, _^_, _≤_, _<_}
 use native.Mathlib.Omega.{arith}
-use mathlib.Core.Path.{_≡_, refl}
-use mathlib.Core.Bool.{Bool, true, false, cond, _&&_}
-use mathlib.Core.List.{List}
-use borrow.Author.Tests.{leb-true, eqb-true}
+use mathlib.Core.Path.{_≡_, refl, sym, ap, _∙_}
+use mathlib.Core.Bool.{Bool, true, false, cond, not, _&&_, _||_}
+use mathlib.Core.List.{List, [], _∷_}
+use borrow.Author.Tests.{eqb-true, eq-eqb, leb-true, not-false}
 use lib.Dec.{eqb, leb}
 use lib.ListN.{length}
 use Rattle.integer.specs.Operations.{flag}
-use Rattle.integer.proofs.Booleans.{flag-lt}
-use Rattle.arithmetic.specs.Operands.{divides}
+use Rattle.integer.proofs.Booleans.{both, neither, flag-lt}
+use Rattle.arithmetic.specs.Operands.{among}
+use Rattle.operation.specs.declared.layout.Settings.{Settings}
+use Rattle.operation.specs.declared.layout.Varnode.{Varnode}
 use Rattle.operation.specs.Layout.{operationCount, varnodeAt}
-use Rattle.operation.specs.Rules.{accesses, branches, jumps, lengthOf}
+use Rattle.operation.specs.Rules.{accesses, branches, lengthOf}
 use Rattle.validation.specs.Verdict.{mostBytes}
 use Rattle.validation.specs.WellFormed.{WellFormed}
+use Rattle.machine.specs.Program.{Program}
 use Rattle.machine.specs.Memory.{Memory, OfBytes, lengthsOf, spaceOf}
-use Rattle.machine.specs.Effect.{Operation, operationAt, absent}
+use Rattle.machine.specs.Effect.{Operation, operationAt, absent, pointed}
 use Rattle.machine.specs.Run.{indexOf}
-use Rattle.machine.specs.Conditions.{Words}
-use Rattle.machine.proofs.Conditions.{Destination, formed, few-operations}
+use Rattle.machine.specs.Conditions.{pastItsSpace, outOfBounds, dividesByZero, writesLog, taken, lowPart, branchTaken, exits, nextIndex, destinationBytes, Words}
+use Rattle.machine.proofs.Conditions.{Destination, formed, few-operations, when}
 use Rattle.machine.proofs.Cases.{either}
 use Rattle.memory.specs.Placed.{Placed}
 use Rattle.plan.specs.declared.Plan.{Plan}
 use Rattle.plan.specs.Valid.{Valid}
-use Rattle.plan.specs.Plans.{unwritten, writes, sizeMoved, there, movePlan, branchPlan, dataPlan, planned, Movable}
+use Rattle.plan.specs.Plans.{unwritten, lowDue, exitPlan, nextPlan, planned, Movable}
 use Rattle.plan.proofs.Places.{space-length, placed, movable, in-range}
 
 -- what holds in each case of a condition, by what the test says
@@ -35,97 +38,108 @@ pub nowhere : (m : Memory) → Placed m absent
 unfolding absent
 nowhere m = record { size = omega arith; known = omega arith; nowhere = λ z. refl; within = λ l. absurd (let y : ⊥ = omega arith in y) }
 
-module _ (big : Bool) (m : Memory) (list : List ℕ) (i : ℕ) (v : Valid (lengthsOf m) list) (h : i < operationCount list) where
-  abbrev pub op : Operation
-  op = operationAt list i
+no-number : {A : Type 0} → false ≡ true → A
+no-number f = absurd (let z : _≡_ {A = ℕ} 0 1 = cc in omega arith)
 
-  w : WellFormed (v .addressSize) (lengthsOf m) list i
+-- an operation that branches is a branch
+taken-branches : (n : ℕ) (t : Bool) → among n (4 ∷ 7 ∷ []) || (eqb n 5 && t) ≡ true → branches n ≡ true
+unfolding branches among
+taken-branches n t h =
+    when n 4 (λ e. rw e refl) (λ n4. when n 5 (λ e. rw e refl) (λ n5. when n 7 (λ e. rw e refl) (λ n7. no-number (rw (n4, n5, n7) at h))))
+
+stores-access : (n : ℕ) → eqb n 3 ≡ true → accesses n ≡ true
+unfolding accesses among
+stores-access n e = let k : n ≡ 3 = eqb-true n 3 e in rw k refl
+
+-- LOAD and STORE that are not out of bounds
+module _ (m : Memory) (op : Operation) (b : ℕ) (o : outOfBounds m op b ≡ false) where
+  abbrev past : Varnode → Bool
+  past v = not (leb (b + v .size) (length (spaceOf m (op .input0 .offset))))
+
+  pub loaded-within : eqb (op .opcode) 2 ≡ true → b + op .output .size ≤ length (spaceOf m (op .input0 .offset))
+  unfolding outOfBounds pastItsSpace pointed
+  loaded-within k =
+      let q : true && past (op .output) ≡ false = rw k at (neither (eqb (op .opcode) 2 && past (op .output)) (eqb (op .opcode) 3 && past (op .input2)) o .0) in
+      leb-true _ _ (not-false _ q)
+
+  pub stored-within : eqb (op .opcode) 3 ≡ true → b + op .input2 .size ≤ length (spaceOf m (op .input0 .offset))
+  unfolding outOfBounds pastItsSpace pointed
+  stored-within k =
+      let q : true && past (op .input2) ≡ false = rw k at (neither (eqb (op .opcode) 2 && past (op .output)) (eqb (op .opcode) 3 && past (op .input2)) o .1) in
+      leb-true _ _ (not-false _ q)
+
+module _ (program : Program) (m : Memory) (i : ℕ) (v : Valid (lengthsOf m) (program .list)) (h : i < operationCount (program .list)) where
+  abbrev pub op : Operation
+  op = operationAt (program .list) i
+
+  w : WellFormed (v .addressSize) (lengthsOf m) (program .list) i
   w = v .operations i h
 
+  -- ---- the next index is one of the list, or its end
+
   abbrev pub Within : Plan → Type 0
-  Within p = p .next ≤ operationCount list
+  Within p = p .next ≤ operationCount (program .list)
 
-  stays : i ≤ operationCount list
-  stays = omega arith
-
-  goes-on : suc i ≤ operationCount list
-  goes-on = omega arith
-
-  branch-within : (condition : ℕ) → (eqb (op .input0 .space) 4 ≡ false → (i + op .input0 .offset) % 2 ^ 64 ≤ operationCount list) → Within (branchPlan op i condition)
-  unfolding branchPlan unwritten
-  branch-within condition t =
-      either Within (eqb (op .opcode) 5 && eqb condition 0) _ _ goes-on (when-true Within (eqb (op .input0 .space) 4) _ _ (λ k. stays) t)
-
-  move-within : (pointer : ℕ) → Within (movePlan big m op i pointer)
-  unfolding movePlan unwritten writes
-  move-within pointer = either Within (leb (pointer + sizeMoved op) (length (spaceOf m (op .input0 .offset)))) _ _ goes-on stays
-
-  data-within : (a b : ℕ) → Within (dataPlan op i a b)
-  unfolding dataPlan unwritten writes
-  data-within a b = either Within (jumps (op .opcode)) _ _ stays (either Within (divides (op .opcode) && eqb b 0) _ _ stays goes-on)
+  abbrev InList : ℕ → Type 0
+  InList n = n ≤ operationCount (program .list)
 
   -- a relative target of a well-formed branch
-  target-within : Words list → OfBytes m → branches (op .opcode) ≡ true → eqb (op .input0 .space) 4 ≡ false → (i + op .input0 .offset) % 2 ^ 64 ≤ operationCount list
+  target-within : Words (program .list) → OfBytes m → branches (op .opcode) ≡ true → eqb (op .input0 .space) 1 ≡ true
+      → InList ((i + op .input0 .offset) % 2 ^ 64)
   unfolding operationAt indexOf
   target-within words bytes k s =
-      by (formed big (v .addressSize) list i m words bytes (few-operations (lengthsOf m) list (v .inRange)) w .branchTo k)
+      let small = few-operations (lengthsOf m) (program .list) (v .inRange) in
+      by (formed (program .settings) (v .addressSize) (program .list) i m words bytes small w .branchTo k)
     where
-      by : Destination i (varnodeAt list i 1) → (i + varnodeAt list i 1 .offset) % 2 ^ 64 ≤ operationCount list
+      by : Destination i (varnodeAt (program .list) i 1) → InList ((i + varnodeAt (program .list) i 1 .offset) % 2 ^ 64)
       by (Destination.inList s1 s4 e) =
-          let t = w .target k (eqb-true (varnodeAt list i 1 .space) 1 s1) in
+          let t = w .target k (eqb-true (varnodeAt (program .list) i 1 .space) 1 s) in
           rw (← e, t .2) (t .1)
       by (Destination.inRam s1 s4) = absurd (let z : _≡_ {A = ℕ} 0 1 = cc in omega arith)
 
-  pub next-within : Words list → OfBytes m → Within (planned big m op i)
-  unfolding planned
-  next-within words bytes =
-      either Within (accesses (op .opcode)) _ _ (move-within _)
-      (when-true Within (branches (op .opcode)) _ _ (λ k. branch-within _ (target-within words bytes k)) (λ k. data-within _ _))
+  next-index : Words (program .list) → OfBytes m → (b : ℕ) → InList (nextIndex op i b)
+  unfolding nextIndex branchTaken taken
+  next-index words bytes b =
+      when-true InList (branchTaken op b && eqb (op .input0 .space) 1) _ _
+      (λ k. let t = both (branchTaken op b) (eqb (op .input0 .space) 1) k in
+      target-within words bytes (taken-branches (op .opcode) (not (eqb b 0)) (t .0)) (t .1))
+      (λ k. omega arith)
+
+  pub next-within : Words (program .list) → OfBytes m → (a b : ℕ) → Within (planned program m op i a b)
+  unfolding planned unwritten exitPlan nextPlan
+  next-within words bytes a b =
+      let here : i ≤ operationCount (program .list) = omega arith in
+      either Within (outOfBounds m op b) _ _ here (either Within (dividesByZero op b) _ _ here (either Within (exits op b) _ _ here (next-index words bytes b)))
 
   -- ---- the target may be written
 
   abbrev pub Writable : Plan → Type 0
   Writable p = Placed m (p .target)
 
-  moved-to : (pointer : ℕ) → Movable m op → Placed m (op .output) → leb (pointer + sizeMoved op) (length (spaceOf m (op .input0 .offset))) ≡ true
-      → Placed m (cond (eqb (op .opcode) 2) (op .output) (there op pointer))
-  unfolding there sizeMoved
-  moved-to pointer a o f =
-      when-true (Placed m) (eqb (op .opcode) 2) _ _ (λ k. o)
-      (λ k. record {
-        size = rw k (a .stored .size);
-        known = a .space .1;
-        nowhere = λ z. absurd (let s : 2 ≤ op .input0 .offset = a .space .0 in let y : ⊥ = omega arith in y);
-        within = λ l. leb-true (pointer + sizeMoved op) (length (spaceOf m (op .input0 .offset))) f;
-      })
-
   output-placed : Placed m (op .output)
   unfolding operationAt
-  output-placed = placed m (v .addressSize) list i w 0 (omega arith) (λ z. absurd (let y : ⊥ = omega arith in y))
+  output-placed = placed m (v .addressSize) (program .list) i w 0 (omega arith) (λ z. absurd (let y : ⊥ = omega arith in y))
 
-  move-writable : (pointer : ℕ) → accesses (op .opcode) ≡ true → Writable (movePlan big m op i pointer)
-  unfolding movePlan unwritten writes operationAt
-  move-writable pointer k =
-      when-true Writable (leb (pointer + sizeMoved op) (length (spaceOf m (op .input0 .offset)))) _ _
-      (λ f. moved-to pointer (movable m (v .addressSize) list i w k) output-placed f) (λ f. nowhere m)
+  pub destination-placed : (b : ℕ) → outOfBounds m op b ≡ false → Placed m (destinationBytes op b)
+  unfolding destinationBytes pointed operationAt
+  destination-placed b o =
+      when-true (Placed m) (eqb (op .opcode) 3) _ _
+      (λ k. let a = movable m (v .addressSize) (program .list) i w (stores-access (op .opcode) k) in
+      record {
+        size = a .stored .size;
+        known = a .space .1;
+        nowhere = λ z. absurd (let s : 2 ≤ op .input0 .offset = a .space .0 in let y : ⊥ = omega arith in y);
+        within = λ l. stored-within m op b o k;
+      })
+      (λ k. output-placed)
 
-  branch-writable : (condition : ℕ) → Writable (branchPlan op i condition)
-  unfolding branchPlan unwritten
-  branch-writable condition =
-      either Writable (eqb (op .opcode) 5 && eqb condition 0) _ _ (nowhere m) (either Writable (eqb (op .input0 .space) 4) _ _ (nowhere m) (nowhere m))
+  pub target-writable : (a b : ℕ) → Writable (planned program m op i a b)
+  unfolding planned unwritten exitPlan nextPlan
+  target-writable a b =
+      when-true Writable (outOfBounds m op b) _ _ (λ o. nowhere m)
+      (λ o. either Writable (dividesByZero op b) _ _ (nowhere m) (either Writable (exits op b) _ _ (nowhere m) (destination-placed b o)))
 
-  data-writable : (a b : ℕ) → Writable (dataPlan op i a b)
-  unfolding dataPlan unwritten writes
-  data-writable a b =
-      either Writable (jumps (op .opcode)) _ _ (nowhere m) (either Writable (divides (op .opcode) && eqb b 0) _ _ (nowhere m) output-placed)
-
-  pub target-writable : Writable (planned big m op i)
-  unfolding planned
-  target-writable =
-      when-true Writable (accesses (op .opcode)) _ _ (move-writable _)
-      (λ k. either Writable (branches (op .opcode)) _ _ (branch-writable _) (data-writable _ _))
-
-  -- ---- the low part of the log word
+  -- ---- the low part of the log word is small
 
   abbrev pub Low : Plan → Type 0
   Low p = p .low ≤ mostBytes
@@ -136,32 +150,32 @@ module _ (big : Bool) (m : Memory) (list : List ℕ) (i : ℕ) (v : Valid (lengt
   space-small : (space : ℕ) → length (spaceOf m space) ≤ mostBytes
   unfolding lengthOf
   space-small space =
-      let r = in-range (lengthsOf m) list (v .inRange) in
+      let r = in-range (lengthsOf m) (program .list) (v .inRange) in
       let none : 0 ≤ mostBytes = omega arith in
       rw (← space-length m space)
       (either Small (eqb space 2) _ _ (r .1) (either Small (eqb space 3) _ _ (r .2) (either Small (eqb space 4) _ _ (r .3) none)))
 
-  flag-low : (t : Bool) → flag t ≤ mostBytes
-  flag-low t = omega (arith, flag-lt t)
+  pub pointer-small : (b : ℕ) → outOfBounds m op b ≡ false → accesses (op .opcode) ≡ true → b ≤ mostBytes
+  unfolding accesses among
+  pointer-small b o k =
+      let s = space-small (op .input0 .offset) in
+      when (op .opcode) 2 (λ e. let l = loaded-within m op b o (eq-eqb (op .opcode) 2 e) in omega arith) (λ n2.
+      when (op .opcode) 3 (λ e. let l = stored-within m op b o (eq-eqb (op .opcode) 3 e) in omega arith) (λ n3. no-number (rw (n2, n3) at k)))
 
-  move-low : (pointer : ℕ) → Low (movePlan big m op i pointer)
-  unfolding movePlan unwritten writes
-  move-low pointer =
-      when-true Low (leb (pointer + sizeMoved op) (length (spaceOf m (op .input0 .offset)))) _ _
-      (λ f.
-      let b : pointer + sizeMoved op ≤ length (spaceOf m (op .input0 .offset)) = leb-true _ _ f in
-      omega (arith, space-small (op .input0 .offset))) (λ f. omega arith)
+  logs-access : (n : ℕ) → eqb n 5 ≡ false → among n (2 ∷ 3 ∷ 5 ∷ []) ≡ true → accesses n ≡ true
+  unfolding accesses among
+  logs-access n n5 k = when n 2 (λ e. rw e refl) (λ n2. when n 3 (λ e. rw e refl) (λ n3. no-number (rw (n2, n3, n5) at k)))
 
-  branch-low : (condition : ℕ) → Low (branchPlan op i condition)
-  unfolding branchPlan unwritten
-  branch-low condition =
-      either Low (eqb (op .opcode) 5 && eqb condition 0) _ _ (omega arith)
-      (either Low (eqb (op .input0 .space) 4) _ _ (flag-low (eqb (op .opcode) 5)) (flag-low (eqb (op .opcode) 5)))
+  low-due : (b : ℕ) → outOfBounds m op b ≡ false → Small (lowDue op b)
+  unfolding lowDue lowPart writesLog
+  low-due b o =
+      when-true Small (writesLog op) _ _
+      (λ k. when-true Small (eqb (op .opcode) 5) _ _ (λ c. omega (arith, flag-lt (taken op b))) (λ n5. pointer-small b o (logs-access (op .opcode) n5 k)))
+      (λ k. omega arith)
 
-  data-low : (a b : ℕ) → Low (dataPlan op i a b)
-  unfolding dataPlan unwritten writes
-  data-low a b = either Low (jumps (op .opcode)) _ _ (omega arith) (either Low (divides (op .opcode) && eqb b 0) _ _ (omega arith) (omega arith))
-
-  pub low-small : Low (planned big m op i)
-  unfolding planned
-  low-small = either Low (accesses (op .opcode)) _ _ (move-low _) (either Low (branches (op .opcode)) _ _ (branch-low _) (data-low _ _))
+  pub low-small : (a b : ℕ) → Low (planned program m op i a b)
+  unfolding planned unwritten exitPlan nextPlan
+  low-small a b =
+      let none : 0 ≤ mostBytes = omega arith in
+      when-true Low (outOfBounds m op b) _ _ (λ o. none)
+      (λ o. either Low (dividesByZero op b) _ _ none (either Low (exits op b) _ _ (low-due b o) (low-due b o)))

@@ -1,4 +1,5 @@
 pub mod Places
+pub mod Opcodes
 pub mod Planning
 pub mod Steps
 pub mod Bounds

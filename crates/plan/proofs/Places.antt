@@ -1,4 +1,4 @@
--- What a well-formed operation gives the code: where it may read, what it may move and what it may compute. Assumes nothing.
+-- What a well-formed operation gives the code: where it may read, what it may move and what it may compute.
 use Prim.Native.Nat.{ℕ, _+_, _*_, _%_, _^_, _≤_, _<_}
 use native.Mathlib.Nat.{div-mul-le-self}
 use mathlib.Core.Path.{_≡_, refl, sym}
@@ -11,9 +11,10 @@ use lib.ListN.{length}
 use Rattle.word.specs.Word.{Bytes}
 use Rattle.integer.proofs.Booleans.{both, neither}
 use Rattle.arithmetic.specs.Operands.{among, sizesAgree}
+use Rattle.operation.specs.declared.layout.Settings.{Settings}
 use Rattle.operation.specs.declared.layout.Lengths.{Lengths}
 use Rattle.operation.specs.Layout.{wordsPerOperation, operationCount, opcodeAt, varnodeAt}
-use Rattle.operation.specs.Shapes.{hasPlace}
+use Rattle.operation.specs.Shapes.{shapes, rowOf, outputs, hasPlace}
 use Rattle.operation.specs.Rules.{accesses, branches, jumps, namesSpace, breaksPlace, lengthOf, breaksSize}
 use Rattle.operation.proofs.Tables.{data-shape}
 use Rattle.validation.specs.Verdict.{mostOperations, mostBytes, lengthsInRange}
@@ -21,11 +22,11 @@ use Rattle.validation.specs.WellFormed.{WellFormed}
 use Rattle.machine.specs.Memory.{Memory, OfBytes, spaces, lengthsOf, spaceOf, valueAt}
 use Rattle.machine.specs.Effect.{operationAt, absent}
 use Rattle.machine.specs.Conditions.{Words}
-use Rattle.machine.proofs.Conditions.{Formed, formed, when}
+use Rattle.machine.proofs.Conditions.{Destination, Formed, formed, when}
 use Rattle.machine.proofs.Cases.{either}
 use Rattle.memory.specs.Placed.{Placed}
 use Rattle.plan.specs.Valid.{Valid}
-use Rattle.plan.specs.Plans.{Computable, Movable}
+use Rattle.plan.specs.Plans.{Movable, Branching, Computable}
 
 -- three lent buffers hold bytes
 pub of-bytes : (unique register ram : List ℕ) → Bytes unique → Bytes register → Bytes ram → OfBytes (spaces unique register ram)
@@ -85,6 +86,7 @@ module _ (m : Memory) (addressSize : ℕ) (list : List ℕ) (i : ℕ) (w : WellF
       let q : not (namesSpace (varnodeAt list i 1)) ≡ false = rw a at p in
       let n = both (eqb (varnodeAt list i 1 .space) 1 && leb 2 (varnodeAt list i 1 .offset)) (leb (varnodeAt list i 1 .offset) 4) (not-false _ q) in
       record {
+        opcode = a;
         space = (leb-true 2 (varnodeAt list i 1 .offset) (both (eqb (varnodeAt list i 1 .space) 1) (leb 2 (varnodeAt list i 1 .offset)) (n .0) .1), leb-true (varnodeAt list i 1 .offset) 4 (n .1));
         loaded = placed 0 (omega arith) (λ z. f) .size;
         stored = placed 3 (omega arith) (λ z. f);
@@ -112,15 +114,17 @@ module _ (m : Memory) (addressSize : ℕ) (list : List ℕ) (i : ℕ) (w : WellF
   unfolding breaksSize
   agree n1 a b j = not-false _ (rw (ne-eqb (opcodeAt list i) 1 n1, a, j, not-conditional (opcodeAt list i) b, b) at (w .sized))
 
-  pub computable : (big : Bool) → Words list → OfBytes m → operationCount list < 2 ^ 64 → accesses (opcodeAt list i) ≡ false → branches (opcodeAt list i) ≡ false
-      → (a b : ℕ) → a ≡ valueAt big m (varnodeAt list i 1) → b ≡ valueAt big m (varnodeAt list i 2) → Computable (operationAt list i) a b
+  pub computable : (settings : Settings) → Words list → OfBytes m → operationCount list < 2 ^ 64 → accesses (opcodeAt list i) ≡ false → branches (opcodeAt list i) ≡ false
+      → (a b : ℕ) → a ≡ valueAt settings m (varnodeAt list i 1) → b ≡ valueAt settings m (varnodeAt list i 2) → Computable (operationAt list i) a b
   unfolding operationAt
-  computable big words bytes small na nb a b ea eb = record {
+  computable settings words bytes small na nb a b ea eb = record {
+    noAccess = na;
+    noBranch = nb;
     operands = λ j n1 d.
         let shape = data-shape (opcodeAt list i) (data-opcode n1 na nb j) (w .opcode .1) in
         let out = w .present 0 (omega arith) (shape .0) in
         let in0 = w .present 1 (omega arith) (shape .1) in
-        let f : Formed big m i (operationAt list i) = formed big addressSize list i m words bytes small w in
+        let f : Formed settings m i (operationAt list i) = formed settings addressSize list i m words bytes small w in
         record {
           some = out .2;
           most = out .3;
@@ -133,6 +137,23 @@ module _ (m : Memory) (addressSize : ℕ) (list : List ℕ) (i : ℕ) (w : WellF
           divisor = d;
         };
   }
+
+  -- the rules 22 and 23 of BRANCH, CBRANCH and CALL
+  pub branching : Settings → Words list → OfBytes m → operationCount list < 2 ^ 64 → branches (opcodeAt list i) ≡ true → Branching (operationAt list i)
+  unfolding operationAt branches among hasPlace outputs rowOf shapes
+  branching settings words bytes small b =
+      let f : Formed settings m i (operationAt list i) = formed settings addressSize list i m words bytes small w in
+      record {
+        opcode = b;
+        relative = by (f .branchTo b);
+        noOutput = f .noOutput
+            (when (opcodeAt list i) 4 (λ e. rw e refl) (λ n4. when (opcodeAt list i) 5 (λ e. rw e refl) (λ n5. when (opcodeAt list i) 7 (λ e. rw e refl) (λ n7.
+            absurd (let z : false ≡ true = rw (n4, n5, n7) at b in let y : _≡_ {A = ℕ} 0 1 = cc in omega arith)))));
+      }
+    where
+      by : Destination i (varnodeAt list i 1) → eqb (varnodeAt list i 1 .space) 1 ≡ not (eqb (varnodeAt list i 1 .space) 4)
+      by (Destination.inList s f l) = rw (s, f) refl
+      by (Destination.inRam s f) = rw (s, f) refl
 
 -- ---- lengths and indices
 

@@ -1,151 +1,236 @@
--- From what the code finds of an operation to its plan. Assumes nothing.
-use Prim.Native.Nat.{ℕ, _+_, _%_, _^_, _≤_, _<_}
+-- What the code plans, path by path, is what the exact conditions say.
+use Prim.Native.Nat.{ℕ, suc, _+_, _%_, _^_, _≤_, _<_}
 use native.Mathlib.Omega.{arith}
 use mathlib.Core.Path.{_≡_, refl, sym, ap, _∙_}
 use mathlib.Core.Bool.{Bool, true, false, cond, not, _&&_}
+use mathlib.Core.List.{[], _∷_}
 use native.Mathlib.Numerals.{add-one}
 use borrow.Author.Tests.{eqb-false, eq-eqb, ne-eqb, leb-true, not-true, not-false}
 use lib.Dec.{eqb, leb}
 use lib.ListN.{length}
 use Rattle.integer.specs.Operations.{flag}
-use Rattle.arithmetic.specs.Operands.{divides, Operands}
-use Rattle.arithmetic.specs.Result.{result}
+use Rattle.arithmetic.specs.Operands.{among, divides, Operands}
+use Rattle.arithmetic.specs.Result.{lookup, result}
 use Rattle.operation.specs.declared.layout.Varnode.{Varnode}
 use Rattle.operation.specs.Rules.{accesses, branches, jumps, lengthOf}
+use Rattle.machine.specs.Program.{Program}
 use Rattle.machine.specs.Memory.{Memory, lengthsOf, spaceOf, valueAt}
-use Rattle.machine.specs.Effect.{Operation}
+use Rattle.machine.specs.Effect.{Operation, absent, pointed}
+use Rattle.machine.specs.Conditions.{pastItsSpace, outOfBounds, dividesByZero, writesLog, taken, lowPart, branchTaken, exits, destination, nextIndex, destinationBytes}
+use Rattle.machine.specs.Conditions.{valueComputed, valueMoved, valueWritten}
 use Rattle.memory.specs.Placed.{Placed}
 use Rattle.plan.specs.declared.Plan.{Plan}
-use Rattle.plan.specs.Plans.{unwritten, writes, sizeMoved, there, movePlan, branchPlan, dataPlan, planned, Computable, Movable}
+use Rattle.plan.specs.Plans.{unwritten, stopPlan, lowDue, exitPlan, nextPlan, planned, movePlan, branchPlan, dataPlan, Movable, Branching, Computable}
 use Rattle.plan.proofs.Places.{space-length}
+use Rattle.plan.proofs.Opcodes.{operation, divides-among, by-access, by-jump, by-branch, no-access, no-branch, no-jump}
 
 -- ---- BRANCH, CALL and CBRANCH
 
-module _ (op : Operation) (i condition n : ℕ) (v : Varnode) (en : n ≡ op .opcode) (ev : v ≡ op .input0) (s : Bool) (es : s ≡ eqb n 5 && eqb condition 0) (r : Plan) where
-  pub skipped : s ≡ true → r ≡ unwritten 0 (i + 1) true 0 0 → r ≡ branchPlan op i condition
-  unfolding branchPlan
-  skipped t e = rw (← en, ← es, t, ← add-one i) e
+module _ (i b : ℕ) where
+  abbrev Skips : Operation → Type 0
+  Skips op = eqb (op .opcode) 5 && eqb b 0 ≡ true → unwritten 0 (suc i) true 0 0 ≡ branchPlan op i b
 
-  module _ (low : ℕ) (el : low ≡ flag (eqb n 5)) (f : s ≡ false) where
-    pub away : v .space ≡ 4 → r ≡ unwritten 1 i (eqb n 5) low (v .offset) → r ≡ branchPlan op i condition
-    unfolding branchPlan
-    away k e = rw (← en, ← ev, ← es, f, ← el, eq-eqb (v .space) 4 k) e
+  abbrev Leaves : Operation → Type 0
+  Leaves op = eqb (op .opcode) 5 && eqb b 0 ≡ false → eqb (op .input0 .space) 4 ≡ true
+      → unwritten 1 i (eqb (op .opcode) 5) (flag (eqb (op .opcode) 5)) (op .input0 .offset) ≡ branchPlan op i b
 
-    pub along : (v .space ≡ 4 → ⊥) → (next : ℕ) → next ≡ (i + v .offset) % 2 ^ 64 → r ≡ unwritten 0 next (eqb n 5) low 0 → r ≡ branchPlan op i condition
-    unfolding branchPlan
-    along k next h e = rw (← en, ← ev, ← es, f, ← el, ne-eqb (v .space) 4 k, ← h) e
+  abbrev Follows : Operation → Type 0
+  Follows op = eqb (op .opcode) 5 && eqb b 0 ≡ false → eqb (op .input0 .space) 4 ≡ false → eqb (op .input0 .space) 1 ≡ true
+      → unwritten 0 ((i + op .input0 .offset) % 2 ^ 64) (eqb (op .opcode) 5) (flag (eqb (op .opcode) 5)) 0 ≡ branchPlan op i b
 
--- ---- the others
+  module _ (op : Operation) (h : Branching op) where
+    pub skips : Skips op
+    unfolding branchPlan exits branchTaken taken exitPlan nextPlan nextIndex writesLog lowDue lowPart destinationBytes unwritten among flag absent
+    skips = by-branch Skips op (h .opcode) (h .noOutput) (λ z. no z) (λ z. rw z refl) (λ z. no z)
+      where
+        no : {A : Type 0} → false ≡ true → A
+        no f = absurd (let z : _≡_ {A = ℕ} 0 1 = cc in omega arith)
 
-module _ (op : Operation) (i a b n : ℕ) (en : n ≡ op .opcode) (j : Bool) (ej : j ≡ jumps n) (r : Plan) where
-  pub left : j ≡ true → r ≡ unwritten 1 i false 0 a → r ≡ dataPlan op i a b
-  unfolding dataPlan
-  left t e = rw (← en, ← ej, t) e
+    pub leaves : Leaves op
+    unfolding branchPlan exits branchTaken taken exitPlan nextPlan destination writesLog lowDue lowPart unwritten among flag
+    leaves = by-branch Leaves op (h .opcode) (h .noOutput) (λ z s. rw s refl) (λ z s. rw (z, s) refl) (λ z s. rw s refl)
 
-  module _ (f : j ≡ false) (z : Bool) (ez : z ≡ divides n && eqb b 0) where
-    pub by-zero : z ≡ true → r ≡ unwritten 33 i false 0 0 → r ≡ dataPlan op i a b
-    unfolding dataPlan
-    by-zero t e = rw (← en, ← ej, f, ← ez, t) e
-
-    module _ (g : z ≡ false) (out : Varnode) (eo : out ≡ op .output) where
-      pub copied : n ≡ 1 → r ≡ writes i false 0 out a → r ≡ dataPlan op i a b
-      unfolding dataPlan
-      copied k e = rw (← en, ← ej, f, ← ez, g, ← eo, eq-eqb n 1 k) e
-
-      pub computed : (n ≡ 1 → ⊥) → (v0 v1 : Varnode) → v0 ≡ op .input0 → v1 ≡ op .input1
-          → (x : ℕ) → x ≡ result n (out .size) (v0 .size) (v1 .size) a b → r ≡ writes i false 0 out x → r ≡ dataPlan op i a b
-      unfolding dataPlan
-      computed k v0 v1 e0 e1 x ex e = rw (← en, ← ej, f, ← ez, g, ← eo, ← e0, ← e1, ne-eqb n 1 k, ← ex) e
-
--- the arithmetic may be asked
-pub computable : (op : Operation) (a b n : ℕ) → Computable op a b → n ≡ op .opcode → (j : Bool) → j ≡ jumps n → j ≡ false
-    → (z : Bool) → z ≡ divides n && eqb b 0 → z ≡ false → (n ≡ 1 → ⊥) → (out v0 v1 : Varnode) → out ≡ op .output → v0 ≡ op .input0 → v1 ≡ op .input1
-    → Operands n (out .size) (v0 .size) (v1 .size) a b
-computable op a b n h en j ej f z ez g k out v0 v1 eo e0 e1 =
-    rw (en, eo, e0, e1) (h .operands (ap jumps (sym en) ∙ sym ej ∙ f) (λ e. k (en ∙ e)) (λ d. positive (eqb b 0) refl (ap divides en ∙ d)))
-  where
-    positive : (t : Bool) → eqb b 0 ≡ t → divides n ≡ true → 0 < b
-    positive true e d = let q : z ≡ true = ez ∙ rw (d, e) refl in absurd (let y : _≡_ {A = ℕ} 0 1 = cc in omega arith)
-    positive false e d = let q : b ≡ 0 → ⊥ = eqb-false b 0 e in omega arith
+    pub follows : Follows op
+    unfolding branchPlan exits branchTaken taken exitPlan nextPlan nextIndex writesLog lowDue lowPart destinationBytes unwritten among flag absent
+    follows = by-branch Follows op (h .opcode) (h .noOutput) (λ z s t. rw (s, t) refl) (λ z s t. rw (z, s, t) refl) (λ z s t. rw (s, t) refl)
 
 -- ---- LOAD and STORE
 
--- the varnodes that the code chooses by the opcode
-module _ (op : Operation) (n : ℕ) (output input2 : Varnode) (en : n ≡ op .opcode) (eo : output ≡ op .output) (e2 : input2 ≡ op .input2) (sized : Varnode)
-    (es : sized ≡ cond (eqb n 2) output input2) where
-  pub moved-size : sized .size ≡ sizeMoved op
-  unfolding sizeMoved
-  moved-size = rw (es, en, eo, e2) (by (eqb (op .opcode) 2))
-    where
-      by : (t : Bool) → cond t (op .output) (op .input2) .size ≡ cond t (op .output .size) (op .input2 .size)
-      by true = refl
-      by false = refl
+-- what is moved: the output's bytes, or those of input2
+abbrev pub moved : Operation → Varnode
+moved op = cond (eqb (op .opcode) 2) (op .output) (op .input2)
 
-  module _ (pointer : ℕ) (input0 v : Varnode) (e0 : input0 ≡ op .input0) where
-    bytes-there : record { space = input0 .offset; offset = pointer; size = sized .size } ≡ there op pointer
-    unfolding there
-    bytes-there = rw (moved-size, e0) refl
+abbrev fits : Memory → (b : ℕ) → Operation → Bool
+fits m b op = leb (b + moved op .size) (length (spaceOf m (op .input0 .offset)))
 
-    pub source : v ≡ cond (eqb n 2) (record { space = input0 .offset; offset = pointer; size = sized .size }) input2
-        → v ≡ cond (eqb (op .opcode) 2) (there op pointer) (op .input2)
-    source e = e ∙ rw (bytes-there, en, e2) refl
+module _ (program : Program) (m : Memory) (i b : ℕ) where
+  abbrev Outside : Operation → Type 0
+  Outside op = fits m b op ≡ false → stopPlan 32 i ≡ movePlan program m op i b
 
-    pub sink : v ≡ cond (eqb n 2) output (record { space = input0 .offset; offset = pointer; size = sized .size })
-        → v ≡ cond (eqb (op .opcode) 2) (op .output) (there op pointer)
-    sink e = e ∙ rw (bytes-there, en, eo) refl
+  abbrev Moves : Operation → Type 0
+  Moves op = fits m b op ≡ true
+      → record {
+        stop = 0;
+        next = suc i;
+        due = true;
+        low = b;
+        target = cond (eqb (op .opcode) 2) (op .output) (pointed op b (moved op .size));
+        value = valueAt (program .settings) m (cond (eqb (op .opcode) 2) (pointed op b (moved op .size)) (op .input2));
+      } ≡ movePlan program m op i b
 
-module _ (big : Bool) (m : Memory) (op : Operation) (i pointer : ℕ) (v0 : Varnode) (e0 : v0 ≡ op .input0)
-    (size : ℕ) (em : size ≡ sizeMoved op) (extent : ℕ) (ee : extent ≡ lengthOf (lengthsOf m) (v0 .offset)) (t : Bool) (et : t ≡ leb (pointer + size) extent) where
-  fits : t ≡ leb (pointer + sizeMoved op) (length (spaceOf m (op .input0 .offset)))
-  fits = et ∙ rw (em, ee, e0, space-length m (op .input0 .offset)) refl
+  module _ (op : Operation) (h : Movable m op) where
+    pub outside : Outside op
+    unfolding movePlan outOfBounds pastItsSpace pointed
+    outside = by-access Outside op (h .opcode) (λ f. rw f refl) (λ f. rw f refl)
 
-  pub outside : (r : Plan) → not t ≡ true → r ≡ unwritten 32 i false 0 0 → r ≡ movePlan big m op i pointer
-  unfolding movePlan
-  outside r f e = rw (← fits, not-true t f) e
+    pub moves : Moves op
+    unfolding movePlan outOfBounds pastItsSpace pointed nextPlan nextIndex branchTaken taken writesLog lowDue lowPart destinationBytes valueMoved among
+    moves = by-access Moves op (h .opcode) (λ f. rw f refl) (λ f. rw f refl)
 
-  loaded-size : eqb (op .opcode) 2 ≡ true → Movable m op → sizeMoved op ≤ 8
-  unfolding sizeMoved
-  loaded-size k h = rw k (h .loaded)
+-- ---- all others
 
-  pub inside : not t ≡ false → Movable m op → (from : Varnode) → from ≡ cond (eqb (op .opcode) 2) (there op pointer) (op .input2) → Placed m from
-  unfolding there
-  inside f h from e = rw e (by (eqb (op .opcode) 2) refl)
-    where
-      by : (loads : Bool) → eqb (op .opcode) 2 ≡ loads → Placed m (cond loads (there op pointer) (op .input2))
-      by true k = record {
-        size = loaded-size k h;
-        known = h .space .1;
-        nowhere = λ z. absurd (let s : 2 ≤ op .input0 .offset = h .space .0 in let y : ⊥ = omega arith in y);
-        within = λ l. leb-true (pointer + sizeMoved op) (length (spaceOf m (op .input0 .offset))) (sym fits ∙ not-false t f);
-      }
-      by false k = h .stored
+module _ (i a b : ℕ) where
+  abbrev Jumps : Operation → Type 0
+  Jumps op = unwritten 1 i false 0 a ≡ dataPlan op i a b
 
-  pub moved : (r : Plan) → not t ≡ false → (from to : Varnode) (x : ℕ) → from ≡ cond (eqb (op .opcode) 2) (there op pointer) (op .input2) → x ≡ valueAt big m from
-      → to ≡ cond (eqb (op .opcode) 2) (op .output) (there op pointer) → r ≡ writes i true pointer to x → r ≡ movePlan big m op i pointer
-  unfolding movePlan
-  moved r f from to x ef ex et e = rw (← fits, not-false t f, ← ef, ← et, ← ex) e
+  module _ (op : Operation) (h : Computable op a b) where
+    pub jumped : jumps (op .opcode) ≡ true → Jumps op
+    unfolding dataPlan dividesByZero exits branchTaken taken exitPlan destination writesLog lowDue unwritten among
+    jumped j = by-jump Jumps op j refl refl refl
+
+    pub by-zero : divides (op .opcode) && eqb b 0 ≡ true → stopPlan 33 i ≡ dataPlan op i a b
+    unfolding dataPlan dividesByZero
+    by-zero z = rw (← divides-among (op .opcode), z) refl
+
+    pub computed : jumps (op .opcode) ≡ false → divides (op .opcode) && eqb b 0 ≡ false
+        → record { stop = 0; next = suc i; due = false; low = 0; target = op .output; value = valueComputed op a b } ≡ dataPlan op i a b
+    unfolding dataPlan dividesByZero exits branchTaken taken nextPlan nextIndex writesLog lowDue destinationBytes among
+    computed j z =
+        let na = no-access (op .opcode) (h .noAccess) in
+        let nb = no-branch (op .opcode) (h .noBranch) in
+        let nj = no-jump (op .opcode) j in
+        rw (← divides-among (op .opcode), z, na .n2, na .n3, nb .n4, nb .n5, nb .n7, nj .n6, nj .n8, nj .n9) refl
 
 -- ---- the plan, by opcode
 
-module _ (big : Bool) (m : Memory) (op : Operation) (i n : ℕ) (en : n ≡ op .opcode) (v1 : Varnode) (e1 : v1 ≡ op .input1) (b : ℕ) (eb : b ≡ valueAt big m v1)
-    (r : Plan) (t : Bool) (et : t ≡ accesses n) where
-  value1 : valueAt big m (op .input1) ≡ b
-  value1 = sym (eb ∙ ap (valueAt big m) e1)
+module _ (program : Program) (m : Memory) (i a b : ℕ) where
+  abbrev Moved : Operation → Type 0
+  Moved op = movePlan program m op i b ≡ planned program m op i a b
 
-  known : (g : ℕ → Bool) {x y : Bool} → x ≡ g n → x ≡ y → g (op .opcode) ≡ y
-  known g ex k = ap g (sym en) ∙ sym ex ∙ k
+  abbrev Branched : Operation → Type 0
+  Branched op = branchPlan op i b ≡ planned program m op i a b
 
-  pub plan-move : t ≡ true → r ≡ movePlan big m op i b → r ≡ planned big m op i
-  unfolding planned
-  plan-move k e = rw (known accesses et k, value1) e
+  module _ (op : Operation) where
+    pub plans-move : Movable m op → Moved op
+    unfolding movePlan planned dividesByZero exits branchTaken taken valueWritten among
+    plans-move h = by-access Moved op (h .opcode) refl refl
 
-  module _ (f : t ≡ false) (s : Bool) (es : s ≡ branches n) where
-    pub plan-branch : s ≡ true → r ≡ branchPlan op i b → r ≡ planned big m op i
-    unfolding planned
-    plan-branch k e = rw (known accesses et f, known branches es k, value1) e
+    pub plans-branch : Branching op → Branched op
+    unfolding branchPlan planned outOfBounds dividesByZero exitPlan destination valueWritten valueComputed result lookup among
+    plans-branch h = by-branch Branched op (h .opcode) (h .noOutput) refl refl refl
 
-    pub plan-data : s ≡ false → (v0 : Varnode) → v0 ≡ op .input0 → (a : ℕ) → a ≡ valueAt big m v0 → r ≡ dataPlan op i a b → r ≡ planned big m op i
-    unfolding planned
-    plan-data k v0 e0 a ea e =
-        let value0 : valueAt big m (op .input0) ≡ a = sym (ea ∙ ap (valueAt big m) e0) in
-        rw (known accesses et f, known branches es k, value1, value0) e
+    pub plans-data : accesses (op .opcode) ≡ false → dataPlan op i a b ≡ planned program m op i a b
+    unfolding dataPlan planned outOfBounds valueWritten among
+    plans-data h = let na = no-access (op .opcode) h in rw (na .n2, na .n3) refl
+
+-- ---- as the code finds it: n is the opcode, and v0, v1, out are varnodes, that it decoded
+
+module _ (op : Operation) (i b n : ℕ) (v0 : Varnode) (en : n ≡ op .opcode) (e0 : v0 ≡ op .input0) (h : Branching op) (s : Bool) (es : s ≡ eqb n 5 && eqb b 0)
+    (r : Plan) where
+  untaken : {t : Bool} → s ≡ t → eqb (op .opcode) 5 && eqb b 0 ≡ t
+  untaken k = rw (← en) (sym es ∙ k)
+
+  pub code-skips : s ≡ true → r ≡ unwritten 0 (i + 1) true 0 0 → r ≡ branchPlan op i b
+  code-skips k e = e ∙ rw add-one (skips i b op h (untaken k))
+
+  module _ (low : ℕ) (el : low ≡ flag (eqb n 5)) (f : s ≡ false) where
+    pub code-leaves : v0 .space ≡ 4 → r ≡ unwritten 1 i (eqb n 5) low (v0 .offset) → r ≡ branchPlan op i b
+    code-leaves k e =
+        let away : eqb (op .input0 .space) 4 ≡ true = rw (← e0) (eq-eqb (v0 .space) 4 k) in
+        e ∙ rw (el, en, e0) (leaves i b op h (untaken f) away)
+
+    pub code-follows : (v0 .space ≡ 4 → ⊥) → (next : ℕ) → next ≡ (i + v0 .offset) % 2 ^ 64 → r ≡ unwritten 0 next (eqb n 5) low 0 → r ≡ branchPlan op i b
+    code-follows k next en′ e =
+        let stays : eqb (op .input0 .space) 4 ≡ false = rw (← e0) (ne-eqb (v0 .space) 4 k) in
+        e ∙ rw (en′, el, en, e0) (follows i b op h (untaken f) stays (h .relative ∙ rw stays refl))
+
+module _ (op : Operation) (a b n : ℕ) (en : n ≡ op .opcode) (h : Computable op a b) (j : Bool) (ej : j ≡ jumps n) where
+  jumping : {t : Bool} → j ≡ t → jumps (op .opcode) ≡ t
+  jumping k = rw (← en) (sym ej ∙ k)
+
+  pub code-jumps : (i : ℕ) (r : Plan) → j ≡ true → r ≡ unwritten 1 i false 0 a → r ≡ dataPlan op i a b
+  code-jumps i r k e = e ∙ jumped i a b op h (jumping k)
+
+  module _ (f : j ≡ false) (d z : Bool) (ed : d ≡ divides n) (ez : z ≡ d && eqb b 0) where
+    dividing : {t : Bool} → z ≡ t → divides (op .opcode) && eqb b 0 ≡ t
+    dividing k = rw (← en, ← ed) (sym ez ∙ k)
+
+    pub code-by-zero : (i : ℕ) (r : Plan) → z ≡ true → r ≡ unwritten 33 i false 0 0 → r ≡ dataPlan op i a b
+    code-by-zero i r k e = e ∙ by-zero i a b op h (dividing k)
+
+    module _ (g : z ≡ false) (out : Varnode) (eo : out ≡ op .output) where
+      written-as : (i : ℕ) (r : Plan) (x : ℕ) → valueComputed op a b ≡ x → r ≡ record { stop = 0; next = i + 1; due = false; low = 0; target = out; value = x } → r ≡ dataPlan op i a b
+      written-as i r x ex e = e ∙ rw (eo, ← ex, add-one) (computed i a b op h (jumping f) (dividing g))
+
+      pub code-copies : (i : ℕ) (r : Plan) → n ≡ 1 → r ≡ record { stop = 0; next = i + 1; due = false; low = 0; target = out; value = a } → r ≡ dataPlan op i a b
+      unfolding valueComputed
+      code-copies i r k e = let copy : eqb (op .opcode) 1 ≡ true = rw (← en) (eq-eqb n 1 k) in written-as i r a (rw copy refl) e
+
+      module _ (k : n ≡ 1 → ⊥) (v0 v1 : Varnode) (e0 : v0 ≡ op .input0) (e1 : v1 ≡ op .input1) where
+        -- the arithmetic may be asked
+        pub may-compute : Operands n (out .size) (v0 .size) (v1 .size) a b
+        may-compute = rw (en, eo, e0, e1) (h .operands (jumping f) (λ e. k (en ∙ e)) (λ q. positive (eqb b 0) refl q))
+          where
+            positive : (t : Bool) → eqb b 0 ≡ t → divides (op .opcode) ≡ true → 0 < b
+            positive true e q = let y : true ≡ false = sym (rw (q, e) refl) ∙ dividing g in absurd (let y : _≡_ {A = ℕ} 0 1 = cc in omega arith)
+            positive false e q = let p : b ≡ 0 → ⊥ = eqb-false b 0 e in omega arith
+
+        pub code-computes : (i : ℕ) (r : Plan) (x : ℕ) → x ≡ result n (out .size) (v0 .size) (v1 .size) a b
+            → r ≡ record { stop = 0; next = i + 1; due = false; low = 0; target = out; value = x } → r ≡ dataPlan op i a b
+        unfolding valueComputed
+        code-computes i r x ex e =
+            let other : eqb (op .opcode) 1 ≡ false = rw (← en) (ne-eqb n 1 k) in
+            written-as i r x (rw other (sym (ex ∙ rw (en, eo, e0, e1) refl))) e
+
+module _ (m : Memory) (op : Operation) (b n : ℕ) (output input0 input2 sized : Varnode) (en : n ≡ op .opcode) (eo : output ≡ op .output)
+    (e0 : input0 ≡ op .input0) (e2 : input2 ≡ op .input2) (es : sized ≡ cond (eqb n 2) output input2) (h : Movable m op)
+    (extent : ℕ) (ee : extent ≡ lengthOf (lengthsOf m) (input0 .offset)) (t : Bool) (et : t ≡ leb (b + sized .size) extent) where
+  sized-as : sized ≡ moved op
+  sized-as = es ∙ rw (en, eo, e2) refl
+
+  fits-as : {k : Bool} → t ≡ k → fits m b op ≡ k
+  fits-as k = sym (et ∙ rw (ee, e0, space-length m (op .input0 .offset), sized-as) refl) ∙ k
+
+  there : record { space = input0 .offset; offset = b; size = sized .size } ≡ pointed op b (moved op .size)
+  unfolding pointed
+  there = rw (e0, sized-as) refl
+
+  pub code-outside : (program : Program) (i : ℕ) (r : Plan) → not t ≡ true → r ≡ unwritten 32 i false 0 0 → r ≡ movePlan program m op i b
+  code-outside program i r k e = e ∙ outside program m i b op h (fits-as (not-true t k))
+
+  module _ (k : not t ≡ false) (from : Varnode) (ef : from ≡ cond (eqb n 2) (record { space = input0 .offset; offset = b; size = sized .size }) input2) where
+    source : from ≡ cond (eqb (op .opcode) 2) (pointed op b (moved op .size)) (op .input2)
+    source = ef ∙ rw (there, en, e2) refl
+
+    pub may-read : Placed m from
+    unfolding pointed
+    may-read = rw source (by (eqb (op .opcode) 2) refl)
+      where
+        by : (loads : Bool) → eqb (op .opcode) 2 ≡ loads → Placed m (cond loads (pointed op b (moved op .size)) (op .input2))
+        by true e =
+            let l : moved op ≡ op .output = rw e refl in
+            record {
+              size = rw l (h .loaded);
+              known = h .space .1;
+              nowhere = λ z. absurd (let s : 2 ≤ op .input0 .offset = h .space .0 in let y : ⊥ = omega arith in y);
+              within = λ z. leb-true _ _ (fits-as (not-false t k));
+            }
+        by false e = h .stored
+
+    pub code-moves : (program : Program) (i : ℕ) (r : Plan) (x : ℕ) → x ≡ valueAt (program .settings) m from
+        → (to : Varnode) → to ≡ cond (eqb n 2) output (record { space = input0 .offset; offset = b; size = sized .size })
+        → r ≡ record { stop = 0; next = i + 1; due = true; low = b; target = to; value = x } → r ≡ movePlan program m op i b
+    code-moves program i r x ex to eto e =
+        let sink : to ≡ cond (eqb (op .opcode) 2) (op .output) (pointed op b (moved op .size)) = eto ∙ rw (there, en, eo) refl in
+        let value : x ≡ valueAt (program .settings) m (cond (eqb (op .opcode) 2) (pointed op b (moved op .size)) (op .input2)) = ex ∙ ap (valueAt (program .settings) m) source in
+        e ∙ rw (sink, value, add-one) (moves program m i b op h (fits-as (not-false t k)))

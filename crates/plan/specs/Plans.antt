@@ -1,17 +1,16 @@
--- What the code plans for an operation before anything is written. Nothing here is to be believed: the laws in proofs/ lead from a plan to
--- the machine's step.
-use Prim.Native.Nat.{ℕ, suc, _+_, _%_, _^_, _≤_, _<_}
+-- What the code plans for an operation before anything is written, in the words of the machine's exact conditions; a is the value of
+-- input0 and b that of input1.
+use Prim.Native.Nat.{ℕ, _≤_, _<_}
 use mathlib.Core.Path.{_≡_}
-use mathlib.Core.Bool.{Bool, true, false, cond, _&&_}
-use lib.Dec.{eqb, leb}
-use lib.ListN.{length}
-use Rattle.integer.specs.Operations.{flag}
+use mathlib.Core.Bool.{Bool, true, false, cond, not}
+use lib.Dec.{eqb}
 use Rattle.arithmetic.specs.Operands.{divides, Operands}
-use Rattle.arithmetic.specs.Result.{result}
 use Rattle.operation.specs.declared.layout.Varnode.{Varnode}
 use Rattle.operation.specs.Rules.{accesses, branches, jumps}
-use Rattle.machine.specs.Memory.{Memory, spaceOf, valueAt}
+use Rattle.machine.specs.Program.{Program}
+use Rattle.machine.specs.Memory.{Memory}
 use Rattle.machine.specs.Effect.{Operation, absent}
+use Rattle.machine.specs.Conditions.{outOfBounds, dividesByZero, writesLog, lowPart, exits, destination, nextIndex, destinationBytes, valueComputed, valueMoved, valueWritten}
 use Rattle.memory.specs.Placed.{Placed}
 use Rattle.plan.specs.declared.Plan.{Plan}
 
@@ -20,63 +19,59 @@ unfoldable pub unwritten : (stop next : ℕ) → (due : Bool) → (low value : �
 unwritten stop next due low value = record { stop = stop; next = next; due = due; low = low; target = absent; value = value }
 
 -- A stop, 32 BOUNDS or 33 ZERO.
-abbrev pub stops : (ending i : ℕ) → Plan
-stops ending i = unwritten ending i false 0 0
+abbrev pub stopPlan : (ending i : ℕ) → Plan
+stopPlan ending i = unwritten ending i false 0 0
 
--- EXIT with a destination; `due` and `low` are of the log word.
-abbrev pub exits : (i : ℕ) → (due : Bool) → (low destination : ℕ) → Plan
-exits i due low destination = unwritten 1 i due low destination
+-- The low part of the log word that is due; 0 where none is.
+unfoldable pub lowDue : Operation → (b : ℕ) → ℕ
+lowDue op b = cond (writesLog op) (lowPart op b) 0
 
--- Going on without a write.
-abbrev pub goes : (next : ℕ) → (due : Bool) → (low : ℕ) → Plan
-goes next due low = unwritten 0 next due low 0
+-- EXIT.
+unfoldable pub exitPlan : Operation → (i a b : ℕ) → Plan
+exitPlan op i a b = unwritten 1 i (writesLog op) (lowDue op b) (destination op a)
 
--- Going on at the next operation after a write.
-unfoldable pub writes : (i : ℕ) → (due : Bool) → (low : ℕ) → Varnode → (value : ℕ) → Plan
-writes i due low target value = record { stop = 0; next = suc i; due = due; low = low; target = target; value = value }
+-- Going on, after this value is written.
+unfoldable pub nextPlan : Operation → (i b value : ℕ) → Plan
+nextPlan op i b value =
+    record { stop = 0; next = nextIndex op i b; due = writesLog op; low = lowDue op b; target = destinationBytes op b; value = value }
 
--- LOAD and STORE, of `size` bytes at a pointer.
-unfoldable pub sizeMoved : Operation → ℕ
-sizeMoved op = cond (eqb (op .opcode) 2) (op .output .size) (op .input2 .size)
+-- BOUNDS; ZERO; EXIT; or going on. LEAK comes before the plan, and LOG after it.
+unfoldable pub planned : Program → Memory → Operation → (i a b : ℕ) → Plan
+planned program m op i a b =
+    cond (outOfBounds m op b) (stopPlan 32 i)
+    (cond (dividesByZero op b) (stopPlan 33 i)
+    (cond (exits op b) (exitPlan op i a b) (nextPlan op i b (valueWritten program m op a b))))
 
-unfoldable pub there : Operation → (pointer : ℕ) → Varnode
-there op pointer = record { space = op .input0 .offset; offset = pointer; size = sizeMoved op }
+-- ---- the same by opcode: LOAD and STORE; BRANCH, CBRANCH and CALL; all others
 
-unfoldable pub movePlan : (big : Bool) → Memory → Operation → (i pointer : ℕ) → Plan
-movePlan big m op i pointer =
-    cond (leb (pointer + sizeMoved op) (length (spaceOf m (op .input0 .offset))))
-    (writes i true pointer (cond (eqb (op .opcode) 2) (op .output) (there op pointer))
-    (valueAt big m (cond (eqb (op .opcode) 2) (there op pointer) (op .input2))))
-    (stops 32 i)
+unfoldable pub movePlan : Program → Memory → Operation → (i b : ℕ) → Plan
+movePlan program m op i b = cond (outOfBounds m op b) (stopPlan 32 i) (nextPlan op i b (valueMoved program m op b))
 
--- BRANCH, CALL and, by its condition, CBRANCH.
-unfoldable pub branchPlan : Operation → (i condition : ℕ) → Plan
-branchPlan op i condition =
-    cond (eqb (op .opcode) 5 && eqb condition 0) (goes (suc i) true 0)
-    (cond (eqb (op .input0 .space) 4) (exits i (eqb (op .opcode) 5) (flag (eqb (op .opcode) 5)) (op .input0 .offset))
-    (goes ((i + op .input0 .offset) % 2 ^ 64) (eqb (op .opcode) 5) (flag (eqb (op .opcode) 5))))
+unfoldable pub branchPlan : Operation → (i b : ℕ) → Plan
+branchPlan op i b = cond (exits op b) (exitPlan op i 0 b) (nextPlan op i b 0)
 
--- All others, on the values of input0 and input1.
 unfoldable pub dataPlan : Operation → (i a b : ℕ) → Plan
 dataPlan op i a b =
-    cond (jumps (op .opcode)) (exits i false 0 a)
-    (cond (divides (op .opcode) && eqb b 0) (stops 33 i)
-    (writes i false 0 (op .output)
-    (cond (eqb (op .opcode) 1) a (result (op .opcode) (op .output .size) (op .input0 .size) (op .input1 .size) a b))))
+    cond (dividesByZero op b) (stopPlan 33 i) (cond (exits op b) (exitPlan op i a b) (nextPlan op i b (valueComputed op a b)))
 
-unfoldable pub planned : (big : Bool) → Memory → Operation → (i : ℕ) → Plan
-planned big m op i =
-    cond (accesses (op .opcode)) (movePlan big m op i (valueAt big m (op .input1)))
-    (cond (branches (op .opcode)) (branchPlan op i (valueAt big m (op .input1)))
-    (dataPlan op i (valueAt big m (op .input0)) (valueAt big m (op .input1))))
-
--- The arithmetic may be asked for the value of an operation other than COPY and the exits, with a divisor that is not 0.
-pub record Computable (op : Operation) (a b : ℕ) : Type 0 where
-  pub operands : jumps (op .opcode) ≡ false → (op .opcode ≡ 1 → ⊥) → (divides (op .opcode) ≡ true → 0 < b)
-      → Operands (op .opcode) (op .output .size) (op .input0 .size) (op .input1 .size) a b
+-- ---- what the code relies on, by the rules of well-formed operations
 
 -- LOAD and STORE name a space with bytes, move at most 8 bytes, and may read what is stored.
 pub record Movable (m : Memory) (op : Operation) : Type 0 where
+  pub opcode : accesses (op .opcode) ≡ true
   pub space : (2 ≤ op .input0 .offset) × (op .input0 .offset ≤ 4)
   pub loaded : op .output .size ≤ 8
   pub stored : Placed m (op .input2)
+
+-- A branch goes to space 1 or 4, and has no output.
+pub record Branching (op : Operation) : Type 0 where
+  pub opcode : branches (op .opcode) ≡ true
+  pub relative : eqb (op .input0 .space) 1 ≡ not (eqb (op .input0 .space) 4)
+  pub noOutput : op .output ≡ absent
+
+-- The arithmetic may be asked for the value of an operation other than COPY and the exits, with a divisor that is not 0.
+pub record Computable (op : Operation) (a b : ℕ) : Type 0 where
+  pub noAccess : accesses (op .opcode) ≡ false
+  pub noBranch : branches (op .opcode) ≡ false
+  pub operands : jumps (op .opcode) ≡ false → (op .opcode ≡ 1 → ⊥) → (divides (op .opcode) ≡ true → 0 < b)
+      → Operands (op .opcode) (op .output .size) (op .input0 .size) (op .input1 .size) a b

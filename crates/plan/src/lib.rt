@@ -6,9 +6,10 @@ ghost use lib.Dec.{eqb};
 ghost use lib.ListN.{length};
 ghost use Rattle.arithmetic.specs.Result.{result};
 ghost use Rattle.operation.specs.Layout.{wordsPerOperation, operationCount};
-ghost use Rattle.machine.specs.Memory.{spaces, lengthsOf};
+ghost use Rattle.machine.specs.Program.{programOf};
+ghost use Rattle.machine.specs.Memory.{spaces, lengthsOf, valueAt};
 ghost use Rattle.machine.specs.Effect.{operationAt};
-ghost use Rattle.plan.specs.Plans.{unwritten, writes, movePlan, branchPlan, dataPlan, planned, Computable, Movable};
+ghost use Rattle.plan.specs.Plans.{unwritten, movePlan, branchPlan, dataPlan, planned, Movable, Branching, Computable};
 ghost use Rattle.plan.specs.Valid.{Valid};
 use arithmetic::operands::is_division;
 use arithmetic::value;
@@ -16,6 +17,7 @@ use integer::boolean::both;
 use integer::boolean::flag;
 use memory::varnode::read;
 use operation::layout::Lengths;
+use operation::layout::Settings;
 use operation::layout::Varnode;
 use operation::layout::opcode_at;
 use operation::layout::varnode_at;
@@ -57,7 +59,7 @@ fn unwritten(stop: u64, next: usize, due: bool, low: u64, value: u64) -> Plan
 
 fn writes(i: usize, due: bool, low: u64, target: Varnode, value: u64) -> Plan
     requires { ⌜ i < 4096 ⌝ }
-    ensures { λ r. ⌜ r ≡ writes i due low target value ⌝ }
+    ensures { λ r. ⌜ r ≡ record { stop = 0; next = i + 1; due = due; low = low; target = target; value = value } ⌝ }
 {
     Plan {
         stop: 0,
@@ -71,7 +73,7 @@ fn writes(i: usize, due: bool, low: u64, target: Varnode, value: u64) -> Plan
 
 // BRANCH, CALL and, by its condition, CBRANCH.
 fn branch_at(list: &[u64], i: usize, condition: u64) -> Plan
-    requires { ⌜ (wordsPerOperation * i + wordsPerOperation ≤ length (now list)) × (i < 4096) ⌝ }
+    requires { ⌜ (wordsPerOperation * i + wordsPerOperation ≤ length (now list)) × (i < 4096) × Branching (operationAt (now list) i) ⌝ }
     ensures { λ r. ⌜ r ≡ branchPlan (operationAt (now (list .entry)) i) i condition ⌝ }
 {
     let conditional = opcode_at(list, i) == 5;
@@ -117,7 +119,7 @@ fn choose(first: bool, a: Varnode, b: Varnode) -> Varnode
 
 // LOAD and STORE at a pointer: one read and one write, from or to the bytes there.
 fn move_at<'a>(
-    big: bool,
+    settings: Settings,
     list: &[u64],
     unique: &'a [u8],
     register: &'a [u8],
@@ -127,7 +129,7 @@ fn move_at<'a>(
 ) -> Plan
     requires { ⌜ (wordsPerOperation * i + wordsPerOperation ≤ length (now list)) × (i < 4096)
         × Movable (spaces (now unique) (now register) (now ram)) (operationAt (now list) i) ⌝ }
-    ensures { λ r. ⌜ r ≡ movePlan big (spaces (now (unique .entry)) (now (register .entry)) (now (ram .entry))) (operationAt (now (list .entry)) i) i pointer ⌝ }
+    ensures { λ r. ⌜ r ≡ movePlan (programOf settings (now (list .entry))) (spaces (now (unique .entry)) (now (register .entry)) (now (ram .entry))) (operationAt (now (list .entry)) i) i pointer ⌝ }
 {
     let loads = opcode_at(list, i) == 2;
     let output = varnode_at(list, i, 0);
@@ -149,14 +151,14 @@ fn move_at<'a>(
         return unwritten(32, i, false, 0, 0);
     }
     let from = choose(loads, there, input2);
-    let x = read(big, unique, register, ram, from);
+    let x = read(settings, unique, register, ram, from);
     let to = choose(loads, output, there);
     writes(i, true, pointer, to, x)
 }
 
 // The plan of operation i. Input1 is read for every operation: it is the pointer, the condition or the second operand, and 0 if absent.
 pub fn plan_at<'a>(
-    big: bool,
+    settings: Settings,
     list: &[u64],
     unique: &'a [u8],
     register: &'a [u8],
@@ -164,18 +166,21 @@ pub fn plan_at<'a>(
     i: usize,
 ) -> Plan
     requires { ⌜ Valid (lengthsOf (spaces (now unique) (now register) (now ram))) (now list) × (i < operationCount (now list)) ⌝ }
-    ensures { λ r. ⌜ r ≡ planned big (spaces (now (unique .entry)) (now (register .entry)) (now (ram .entry))) (operationAt (now (list .entry)) i) i ⌝ }
+    ensures { λ r. ⌜ r ≡ planned (programOf settings (now (list .entry))) (spaces (now (unique .entry)) (now (register .entry)) (now (ram .entry)))
+        (operationAt (now (list .entry)) i) i
+        (valueAt settings (spaces (now (unique .entry)) (now (register .entry)) (now (ram .entry))) (operationAt (now (list .entry)) i .input0))
+        (valueAt settings (spaces (now (unique .entry)) (now (register .entry)) (now (ram .entry))) (operationAt (now (list .entry)) i .input1)) ⌝ }
 {
     let opcode = opcode_at(list, i);
     let input1 = varnode_at(list, i, 2);
-    let b = read(big, unique, register, ram, input1);
+    let b = read(settings, unique, register, ram, input1);
     if accesses(opcode) {
-        return move_at(big, list, unique, register, ram, i, b);
+        return move_at(settings, list, unique, register, ram, i, b);
     }
     if branches(opcode) {
         return branch_at(list, i, b);
     }
     let input0 = varnode_at(list, i, 1);
-    let a = read(big, unique, register, ram, input0);
+    let a = read(settings, unique, register, ram, input0);
     data_at(list, i, a, b)
 }

@@ -1,12 +1,13 @@
--- What a call that is not refused may rely on, and what a call leaves. Assumes nothing.
+-- What a call that is not refused may rely on, and what a call leaves.
 use Prim.Native.Nat.{ℕ, _≤_, _<_}
-use mathlib.Core.Bool.{Bool, true, false, cond, not, _&&_}
+use mathlib.Core.Bool.{Bool, true, false, cond, not, _&&_, true≢false}
 use mathlib.Core.List.{List}
-use mathlib.Core.Path.{_≡_, refl}
+use mathlib.Core.Path.{_≡_, refl, sym}
 use native.Mathlib.Nat.{sub-zero}
 use native.Mathlib.Omega.{arith}
 use borrow.Author.Tests.{eq-eqb, ne-eqb, eqb-true, eqb-false, ltb-false, not-true, not-false}
 use lib.Dec.{eqb, ltb}
+use lib.ListN.{length}
 use Rattle.integer.proofs.Booleans.{both}
 use Rattle.operation.specs.declared.layout.Settings.{Settings}
 use Rattle.operation.specs.declared.layout.Lengths.{Lengths}
@@ -15,11 +16,14 @@ use Rattle.operation.specs.Layout.{operationCount}
 use Rattle.validation.specs.declared.Malformed.{Malformed}
 use Rattle.validation.specs.Verdict.{settingsInRange, lengthsInRange, malformed, nothingRan, verdict}
 use Rattle.validation.proofs.WellFormed.{verdict-zero}
-use Rattle.machine.specs.Memory.{Memory}
+use Rattle.machine.specs.Program.{programOf}
+use Rattle.machine.specs.Memory.{Memory, spaces, lengthsOf}
 use Rattle.machine.specs.Run.{run}
-use Rattle.machine.specs.Calls.{sameLengths, refusal, starting, outcomeOf, called}
+use Rattle.machine.specs.Calls.{Outcome, unlabelled, plainOutcome, labelledOutcome, sameLengths, refusal, starting, outcomeOf, called}
+use Rattle.machine.proofs.Resume.{no-labels}
 use Rattle.plan.specs.Valid.{Valid}
 use Rattle.execution.specs.Loops.{position}
+use Rattle.labelled.specs.Turns.{Fitting}
 
 -- a refusal that was not called for, and the refusals after it
 not-refused : (t : Bool) (n i : ℕ) (rest : Report) → (t ≡ true → 0 < n) → cond t (nothingRan n i) rest .ending ≡ 0 → (t ≡ false) × (rest .ending ≡ 0)
@@ -64,15 +68,28 @@ module _ (settings : Settings) (list : List ℕ) (start budget : ℕ) (log : Lis
   leaves-as-lent h = rw (← f, ne-eqb (found .ending) 0 h) refl
 
   pub leaves-run : found .ending ≡ 0
-      → outcomeOf log (run (eqb (settings .order) 1) list budget (position start 0 0 log) labels m) ≡ called settings list start budget log labels m refused
+      → outcomeOf log (run (programOf settings list) budget (position start 0 0 log) labels m) ≡ called settings list start budget log labels m refused
   unfolding called position starting
   leaves-run h = rw (← f, eq-eqb (found .ending) 0 h, sub-zero) refl
 
 -- ---- labels
 
-pub same-lengths-are : (a b : Lengths) → sameLengths a b ≡ true → a ≡ b
+same-lengths-are : (a b : Lengths) → sameLengths a b ≡ true → a ≡ b
 unfolding sameLengths
 same-lengths-are a b e =
     let r = both (eqb (a .unique) (b .unique) && eqb (a .register) (b .register)) (eqb (a .ram) (b .ram)) e in
     let u = both (eqb (a .unique) (b .unique)) (eqb (a .register) (b .register)) (r .0) in
     rw (eqb-true (a .unique) (b .unique) (u .0), eqb-true (a .register) (b .register) (u .1), eqb-true (a .ram) (b .ram) (r .1)) refl
+
+pub labels-fit : {labels m : Memory} → sameLengths (lengthsOf labels) (lengthsOf m) ≡ true → Fitting true labels m
+labels-fit e = record { lengths = λ t. same-lengths-are _ _ e; none = λ t. absurd (true≢false t) }
+
+pub none-fit : {m : Memory} → Fitting false unlabelled m
+none-fit = record { lengths = λ t. absurd (true≢false (sym t)); none = λ t. refl }
+
+-- a run that was lent no labels is the plain run
+pub plain-of : (report : Report) (m : Memory) (unique register ram log : List ℕ) (outcome : Outcome) → length unique ≡ 0 → length register ≡ 0 → length ram ≡ 0
+    → labelledOutcome report m (spaces unique register ram) log ≡ outcome → plainOutcome report m log ≡ outcome
+unfolding lengthsOf unlabelled
+plain-of report m unique register ram log outcome u r l e =
+    rw (← no-labels (spaces unique register ram) (rw (u, r, l) refl)) e

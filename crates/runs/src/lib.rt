@@ -2,8 +2,7 @@
 ghost use mathlib.Core.Path.{_≡_};
 ghost use Rattle.machine.specs.Memory.{spaces};
 ghost use Rattle.runs.specs.Promises.{RunPromise, LabelledRunPromise};
-use execution::run_from;
-use labelled::run_labelled;
+use labelled::run_any;
 use operation::layout::Settings;
 use operation::report::Report;
 use refusal::labelled_refusal;
@@ -28,10 +27,24 @@ pub fn run(
     if refused.ending != 0 {
         return refused;
     }
-    let big = settings.order == 1;
-    let at = start as usize;
-    let most = budget as u64;
-    run_from(big, list, unique, register, ram, log, at, 0, most)
+    let mut unique_labels: [u8; 0] = [];
+    let mut register_labels: [u8; 0] = [];
+    let mut ram_labels: [u8; 0] = [];
+    run_any(
+        false,
+        settings,
+        list,
+        unique,
+        register,
+        ram,
+        &mut unique_labels,
+        &mut register_labels,
+        &mut ram_labels,
+        log,
+        start as usize,
+        0,
+        budget as u64,
+    )
 }
 
 // A run with a label for each byte of each space, 0 public or 1 secret: paper 01's labelled run.
@@ -68,8 +81,9 @@ pub fn labelled_run(
     if refused.ending != 0 {
         return refused;
     }
-    run_labelled(
-        settings.order == 1,
+    run_any(
+        true,
+        settings,
         list,
         unique,
         register,
@@ -79,6 +93,7 @@ pub fn labelled_run(
         ram_labels,
         log,
         start as usize,
+        0,
         budget as u64,
     )
 }

@@ -1,14 +1,14 @@
 // What an operation must find public, and what becomes secret by it.
 ghost use mathlib.Core.Path.{_≡_};
+ghost use mathlib.Core.Bool.{cond};
 ghost use Prim.Native.Nat.{_+_, _*_, _≤_, _<_};
 ghost use lib.ListN.{length};
-ghost use Rattle.operation.specs.Layout.{wordsPerOperation, operationCount};
+ghost use Rattle.operation.specs.Layout.{wordsPerOperation, mostInputs, operationCount, varnodeAt};
 ghost use Rattle.machine.specs.Memory.{spaces, lengthsOf};
-ghost use Rattle.machine.specs.Effect.{operationAt};
-ghost use Rattle.machine.specs.Conditions.{leaks};
-ghost use Rattle.memory.specs.Placed.{Placed};
+ghost use Rattle.machine.specs.Effect.{operationAt, absent, pointed};
+ghost use Rattle.machine.specs.Conditions.{leaks, destinationBytes, becomesSecret};
 ghost use Rattle.plan.specs.Valid.{Valid};
-ghost use Rattle.taint.specs.Taint.{guardedOf, bytesThere, targetOf, readsSecret, Readable};
+ghost use Rattle.taint.specs.Taint.{Readable};
 use arithmetic::operands::is_division;
 use integer::boolean::either;
 use memory::labels::has_secret;
@@ -16,28 +16,29 @@ use operation::layout::Varnode;
 use operation::layout::opcode_at;
 use operation::layout::varnode_at;
 use operation::rules::accesses;
-use operation::rules::branches;
 use operation::rules::jumps;
 
-// LEAK: a byte that must be public is secret.
+// LEAK: a byte that must be public is secret. At most input0 and input1 must be.
 pub fn leaks_at(list: &[u64], unique: &[u8], register: &[u8], ram: &[u8], i: usize) -> bool
     requires { ⌜ Valid (lengthsOf (spaces (now unique) (now register) (now ram))) (now list) × (i < operationCount (now list)) ⌝ }
     ensures { λ r. ⌜ r ≡ leaks (spaces (now (unique .entry)) (now (register .entry)) (now (ram .entry))) (operationAt (now (list .entry)) i) ⌝ }
 {
-    has_secret(unique, register, ram, guarded_at(list, i))
+    let opcode = opcode_at(list, i);
+    let leaves = jumps(opcode);
+    let tests = either(accesses(opcode), either(opcode == 5, is_division(opcode)));
+    let input0 = guarded_at(list, i, 1, leaves);
+    let input1 = guarded_at(list, i, 2, tests);
+    let first = has_secret(unique, register, ram, input0);
+    either(first, has_secret(unique, register, ram, input1))
 }
 
-// The varnode that must be public; an absent one where there is none.
-fn guarded_at(list: &[u64], i: usize) -> Varnode
-    requires { ⌜ wordsPerOperation * i + wordsPerOperation ≤ length (now list) ⌝ }
-    ensures { λ r. ⌜ r ≡ guardedOf (operationAt (now (list .entry)) i) ⌝ }
+// The varnode at a place, if it must be public; else an absent one.
+fn guarded_at(list: &[u64], i: usize, place: u8, guarded: bool) -> Varnode
+    requires { ⌜ (wordsPerOperation * i + wordsPerOperation ≤ length (now list)) × (place ≤ mostInputs) ⌝ }
+    ensures { λ r. ⌜ r ≡ cond guarded (varnodeAt (now (list .entry)) i place) absent ⌝ }
 {
-    let opcode = opcode_at(list, i);
-    if either(either(accesses(opcode), opcode == 5), is_division(opcode)) {
-        return varnode_at(list, i, 2);
-    }
-    if jumps(opcode) {
-        return varnode_at(list, i, 1);
+    if guarded {
+        return varnode_at(list, i, place);
     }
     Varnode {
         space: 0,
@@ -46,10 +47,10 @@ fn guarded_at(list: &[u64], i: usize) -> Varnode
     }
 }
 
-// The bytes at the pointer, in the space that input0 names.
-fn there(list: &[u64], i: usize, pointer: u64, size: u64) -> Varnode
+// The bytes at a pointer, in the space that input0 names.
+fn pointed_at(list: &[u64], i: usize, pointer: u64, size: u64) -> Varnode
     requires { ⌜ wordsPerOperation * i + wordsPerOperation ≤ length (now list) ⌝ }
-    ensures { λ r. ⌜ r ≡ bytesThere (operationAt (now (list .entry)) i) pointer size ⌝ }
+    ensures { λ r. ⌜ r ≡ pointed (operationAt (now (list .entry)) i) pointer size ⌝ }
 {
     let input0 = varnode_at(list, i, 1);
     Varnode {
@@ -62,17 +63,17 @@ fn there(list: &[u64], i: usize, pointer: u64, size: u64) -> Varnode
 // What operation i writes to; an absent varnode for branches.
 pub fn target_at(list: &[u64], i: usize, pointer: u64) -> Varnode
     requires { ⌜ wordsPerOperation * i + wordsPerOperation ≤ length (now list) ⌝ }
-    ensures { λ r. ⌜ r ≡ targetOf (operationAt (now (list .entry)) i) pointer ⌝ }
+    ensures { λ r. ⌜ r ≡ destinationBytes (operationAt (now (list .entry)) i) pointer ⌝ }
 {
     if opcode_at(list, i) == 3 {
         let input2 = varnode_at(list, i, 3);
-        return there(list, i, pointer, input2.size);
+        return pointed_at(list, i, pointer, input2.size);
     }
     varnode_at(list, i, 0)
 }
 
-// A byte that operation i reads is secret.
-pub fn reads_secret(
+// What operation i writes becomes secret. A LOAD's own varnodes are public by now, so only the bytes loaded are looked at.
+pub fn becomes_secret(
     list: &[u64],
     unique: &[u8],
     register: &[u8],
@@ -81,18 +82,20 @@ pub fn reads_secret(
     pointer: u64,
 ) -> bool
     requires { ⌜ Readable (spaces (now unique) (now register) (now ram)) (now list) i pointer ⌝ }
-    ensures { λ r. ⌜ r ≡ readsSecret (spaces (now (unique .entry)) (now (register .entry)) (now (ram .entry))) (operationAt (now (list .entry)) i) pointer ⌝ }
+    ensures { λ r. ⌜ r ≡ becomesSecret (spaces (now (unique .entry)) (now (register .entry)) (now (ram .entry))) (operationAt (now (list .entry)) i) pointer ⌝ }
 {
     let opcode = opcode_at(list, i);
-    if branches(opcode) {
-        return false;
-    }
     if opcode == 3 {
         return has_secret(unique, register, ram, varnode_at(list, i, 3));
     }
     if opcode == 2 {
         let output = varnode_at(list, i, 0);
-        return has_secret(unique, register, ram, there(list, i, pointer, output.size));
+        return has_secret(
+            unique,
+            register,
+            ram,
+            pointed_at(list, i, pointer, output.size),
+        );
     }
     let first = has_secret(unique, register, ram, varnode_at(list, i, 1));
     either(

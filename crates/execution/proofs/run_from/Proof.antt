@@ -1,96 +1,157 @@
--- `execution::run_from` meets its contract. The loop's invariant: what is left to do from here is the whole run. Assumes nothing.
-use Rattle.execution.proofs.Running.{Going, begun, at-end, at-budget, may-plan, at-stop, at-full, may-log, may-push, may-write, logs-kept, at-exit, at-next}
-use Rattle.plan.proofs.Places.{of-bytes}
-use Rattle.machine.specs.Memory.{spaces, lengthsOf}
-use Rattle.operation.specs.Layout.{operationCount}
-use Rattle.operation.specs.declared.layout.Lengths.{Lengths}
-use borrow.Author.Needs.{needs}
-use mathlib.Core.Path.{_≡_, sym, ap, _∙_}
-use native.Mathlib.Omega.{arith}
+-- `execution::run_from` meets its contract.
 use Prim.Native.Nat.{_-_}
+use native.Mathlib.Omega.{arith}
+use mathlib.Core.Path.{_≡_, sym, ap, _∙_}
+use Rattle.operation.specs.declared.layout.Lengths.{Lengths}
+use Rattle.operation.specs.Layout.{operationCount}
+use Rattle.machine.specs.Program.{programOf}
+use Rattle.machine.specs.Memory.{spaces, lengthsOf}
+use Rattle.plan.proofs.Places.{of-bytes}
+use Rattle.execution.proofs.Running.{Going, begun, at-end, at-budget, may-plan, at-stop, at-full, may-log, may-push, may-write, logs-kept, at-exit, at-next}
+use borrow.Author.Needs.{needs}
 use Rattle.execution.proofs.run_from.Statement.{statement}
 use Rattle.execution.proofs.run_from.Tie as tie
-use Rattle.execution.proofs.run_from.Lts as lts
 
+-- what is left to do from here is the whole run
 abbrev Inv-loop : tie.InvT-loop
-Inv-loop big list unique₀ register₀ ram₀ log₀ start from budget count i₀ k₀ executed₀ unique register ram log i k executed =
-    (count ≡ operationCount list) × Going big list budget start from log₀ (spaces unique₀ register₀ ram₀) i executed k log (spaces unique register ram)
+Inv-loop settings list unique₀ register₀ ram₀ log₀ start from budget count i₀ k₀ executed₀ unique register ram log i k executed =
+    (count ≡ operationCount list)
+    × Going (programOf settings list) budget start from log₀ (spaces unique₀ register₀ ram₀) i executed k log (spaces unique register ram)
 
 abbrev μ-loop : tie.MeasureT-loop
-μ-loop big list unique₀ register₀ ram₀ log₀ start from budget count i₀ k₀ executed₀ unique register ram log i k executed =
-    budget - executed
+μ-loop settings list unique₀ register₀ ram₀ log₀ start from budget count i₀ k₀ executed₀ unique register ram log i k executed = budget - executed
 
 operation-count-requires : tie.Need-operation-count-requires Inv-loop μ-loop
 operation-count-requires c κs = search needs
 
 loop-holds : tie.Need-loop-holds Inv-loop μ-loop
-loop-holds c = (c .operation-count .ensures, begun _ _ _ _ _ _ _ (λ j. c .before .before .before .before .before .shared-slice-known .given j .fits) (c .before .before .before .before .before .before .pre .0) (c .before .before .before .before .before .before .pre .1) (of-bytes _ _ _ (λ j. c .before .before .before .before .slice-known .given j .fits) (λ j. c .before .before .before .slice-known2 .given j .fits) (λ j. c .before .before .slice-known3 .given j .fits)) (c .before .before .before .before .before .before .pre .2))
+loop-holds c =
+    let at-slice-known3 = c .before .before in
+    let at-slice-known2 = at-slice-known3 .before in
+    let at-slice-known = at-slice-known2 .before in
+    let at-shared-slice-known = at-slice-known .before in
+    let entry = at-shared-slice-known .before in (
+      c .operation-count .ensures,
+      begun _ _ _ _ _ _ (λ j. at-shared-slice-known .shared-slice-known .given j .fits) (entry .pre .0) (entry .pre .1)
+          (of-bytes _ _ _ (λ j. at-slice-known .slice-known .given j .fits) (λ j. at-slice-known2 .slice-known2 .given j .fits)
+          (λ j. at-slice-known3 .slice-known3 .given j .fits)) (entry .pre .2),
+    )
 
 report-requires : tie.Need-report-requires Inv-loop μ-loop
 report-requires c κs = search needs
 
 same-length : tie.Need-same-length Inv-loop μ-loop
 unfolding lengthsOf
-same-length c = ap (λ (l : Lengths). l .unique) (c .before .before .loop .inv .1 .lengths)
+same-length c =
+    let at-loop = c .before .before in
+    ap (λ (l : Lengths). l .unique) (at-loop .loop .inv .1 .lengths)
 
 same-length-2 : tie.Need-same-length-2 Inv-loop μ-loop
 unfolding lengthsOf
-same-length-2 c = ap (λ (l : Lengths). l .register) (c .before .before .loop .inv .1 .lengths)
+same-length-2 c =
+    let at-loop = c .before .before in
+    ap (λ (l : Lengths). l .register) (at-loop .loop .inv .1 .lengths)
 
 same-length-3 : tie.Need-same-length-3 Inv-loop μ-loop
 unfolding lengthsOf
-same-length-3 c = ap (λ (l : Lengths). l .ram) (c .before .before .loop .inv .1 .lengths)
+same-length-3 c =
+    let at-loop = c .before .before in
+    ap (λ (l : Lengths). l .ram) (at-loop .loop .inv .1 .lengths)
 
 same-length-4 : tie.Need-same-length-4 Inv-loop μ-loop
-same-length-4 c = c .before .before .loop .inv .1 .logs .long
+same-length-4 c =
+    let at-loop = c .before .before in
+    at-loop .loop .inv .1 .logs .long
 
 returns : tie.Need-returns Inv-loop μ-loop
-returns c = rw (c .report .ensures) (at-end _ _ _ _ _ _ _ _ _ _ _ _ (c .before .before .loop .inv .1) (c .before .if1 .taken ∙ c .before .before .loop .inv .0))
+returns c =
+    let within1 = c .before in
+    let at-loop = within1 .before in
+    rw (c .report .ensures) (at-end _ _ _ _ _ _ _ _ _ _ _ (at-loop .loop .inv .1) (within1 .if1 .taken ∙ at-loop .loop .inv .0))
 
 report-requires-2 : tie.Need-report-requires-2 Inv-loop μ-loop
 report-requires-2 c κs = search needs
 
 same-length-5 : tie.Need-same-length-5 Inv-loop μ-loop
 unfolding lengthsOf
-same-length-5 c = ap (λ (l : Lengths). l .unique) (c .before .before .before .loop .inv .1 .lengths)
+same-length-5 c =
+    let at-loop = c .before .before .before in
+    ap (λ (l : Lengths). l .unique) (at-loop .loop .inv .1 .lengths)
 
 same-length-6 : tie.Need-same-length-6 Inv-loop μ-loop
 unfolding lengthsOf
-same-length-6 c = ap (λ (l : Lengths). l .register) (c .before .before .before .loop .inv .1 .lengths)
+same-length-6 c =
+    let at-loop = c .before .before .before in
+    ap (λ (l : Lengths). l .register) (at-loop .loop .inv .1 .lengths)
 
 same-length-7 : tie.Need-same-length-7 Inv-loop μ-loop
 unfolding lengthsOf
-same-length-7 c = ap (λ (l : Lengths). l .ram) (c .before .before .before .loop .inv .1 .lengths)
+same-length-7 c =
+    let at-loop = c .before .before .before in
+    ap (λ (l : Lengths). l .ram) (at-loop .loop .inv .1 .lengths)
 
 same-length-8 : tie.Need-same-length-8 Inv-loop μ-loop
-same-length-8 c = c .before .before .before .loop .inv .1 .logs .long
+same-length-8 c =
+    let at-loop = c .before .before .before in
+    at-loop .loop .inv .1 .logs .long
 
 returns-2 : tie.Need-returns-2 Inv-loop μ-loop
-returns-2 c = rw (c .report2 .ensures) (at-budget _ _ _ _ _ _ _ _ _ _ _ _ (c .before .before .before .loop .inv .1) (λ e. c .before .before .if1 .left (e ∙ sym (c .before .before .before .loop .inv .0))) (c .before .if2 .taken))
+returns-2 c =
+    let within2 = c .before in
+    let past1 = within2 .before in
+    let at-loop = past1 .before in
+    rw (c .report2 .ensures) (at-budget _ _ _ _ _ _ _ _ _ _ _ (at-loop .loop .inv .1) (λ e. past1 .if1 .left (e ∙ sym (at-loop .loop .inv .0))) (within2 .if2 .taken))
 
 plan-at-requires : tie.Need-plan-at-requires Inv-loop μ-loop
-plan-at-requires c κs = may-plan _ _ _ _ _ _ _ _ _ _ _ _ (c .before .before .before .before .before .loop .inv .1) (λ e. c .before .before .before .before .if1 .left (e ∙ sym (c .before .before .before .before .before .loop .inv .0))) (c .before .before .before .if2 .left)
+plan-at-requires c κs =
+    let past2 = c .before .before .before in
+    let past1 = past2 .before in
+    let at-loop = past1 .before in
+    may-plan _ _ _ _ _ _ _ _ _ _ _ (at-loop .loop .inv .1) (λ e. past1 .if1 .left (e ∙ sym (at-loop .loop .inv .0))) (past2 .if2 .left)
 
 report-requires-3 : tie.Need-report-requires-3 Inv-loop μ-loop
 report-requires-3 c κs = search needs
 
 same-length-9 : tie.Need-same-length-9 Inv-loop μ-loop
 unfolding lengthsOf
-same-length-9 c = ap (λ (l : Lengths). l .unique) (c .before .before .before .before .before .before .before .before .before .loop .inv .1 .lengths)
+same-length-9 c =
+    let at-plan-at-arg3 = c .before .before .before .before in
+    let past1 = at-plan-at-arg3 .before .before .before .before in
+    let at-loop = past1 .before in
+    ap (λ (l : Lengths). l .unique) (at-loop .loop .inv .1 .lengths)
 
 same-length-10 : tie.Need-same-length-10 Inv-loop μ-loop
 unfolding lengthsOf
-same-length-10 c = ap (λ (l : Lengths). l .register) (c .before .before .before .before .before .before .before .before .before .loop .inv .1 .lengths)
+same-length-10 c =
+    let at-plan-at-arg3 = c .before .before .before .before in
+    let past1 = at-plan-at-arg3 .before .before .before .before in
+    let at-loop = past1 .before in
+    ap (λ (l : Lengths). l .register) (at-loop .loop .inv .1 .lengths)
 
 same-length-11 : tie.Need-same-length-11 Inv-loop μ-loop
 unfolding lengthsOf
-same-length-11 c = ap (λ (l : Lengths). l .ram) (c .before .before .before .before .before .before .before .before .before .loop .inv .1 .lengths)
+same-length-11 c =
+    let at-plan-at-arg3 = c .before .before .before .before in
+    let past1 = at-plan-at-arg3 .before .before .before .before in
+    let at-loop = past1 .before in
+    ap (λ (l : Lengths). l .ram) (at-loop .loop .inv .1 .lengths)
 
 same-length-12 : tie.Need-same-length-12 Inv-loop μ-loop
-same-length-12 c = c .before .before .before .before .before .before .before .before .before .loop .inv .1 .logs .long
+same-length-12 c =
+    let at-plan-at-arg3 = c .before .before .before .before in
+    let past1 = at-plan-at-arg3 .before .before .before .before in
+    let at-loop = past1 .before in
+    at-loop .loop .inv .1 .logs .long
 
 returns-3 : tie.Need-returns-3 Inv-loop μ-loop
-returns-3 c = rw (c .report3 .ensures) (at-stop _ _ _ _ _ _ _ _ _ _ _ _ (c .before .before .before .before .before .before .before .before .before .loop .inv .1) (λ e. c .before .before .before .before .before .before .before .before .if1 .left (e ∙ sym (c .before .before .before .before .before .before .before .before .before .loop .inv .0))) (c .before .before .before .before .before .before .before .if2 .left) _ (c .before .before .before .plan-at .ensures) (c .before .if3 .taken))
+returns-3 c =
+    let within3 = c .before in
+    let at-plan-at = within3 .before .before in
+    let past2 = at-plan-at .before .before .before .before in
+    let past1 = past2 .before in
+    let at-loop = past1 .before in
+    rw (c .report3 .ensures)
+    (at-stop _ _ _ _ _ _ _ _ _ _ _ (at-loop .loop .inv .1) (λ e. past1 .if1 .left (e ∙ sym (at-loop .loop .inv .0))) (past2 .if2 .left) _ (at-plan-at .plan-at .ensures) (within3 .if3 .taken))
 
 both-requires : tie.Need-both-requires Inv-loop μ-loop
 both-requires c κs = search needs
@@ -100,60 +161,193 @@ report-requires-4 c κs = search needs
 
 same-length-13 : tie.Need-same-length-13 Inv-loop μ-loop
 unfolding lengthsOf
-same-length-13 c = ap (λ (l : Lengths). l .unique) (c .before .before .before .before .before .before .before .before .before .before .before .loop .inv .1 .lengths)
+same-length-13 c =
+    let at-struct-known = c .before .before .before .before in
+    let at-plan-at-arg = at-struct-known .before .before .before .before in
+    let at-loop = at-plan-at-arg .before .before .before in
+    ap (λ (l : Lengths). l .unique) (at-loop .loop .inv .1 .lengths)
 
 same-length-14 : tie.Need-same-length-14 Inv-loop μ-loop
 unfolding lengthsOf
-same-length-14 c = ap (λ (l : Lengths). l .register) (c .before .before .before .before .before .before .before .before .before .before .before .loop .inv .1 .lengths)
+same-length-14 c =
+    let at-struct-known = c .before .before .before .before in
+    let at-plan-at-arg = at-struct-known .before .before .before .before in
+    let at-loop = at-plan-at-arg .before .before .before in
+    ap (λ (l : Lengths). l .register) (at-loop .loop .inv .1 .lengths)
 
 same-length-15 : tie.Need-same-length-15 Inv-loop μ-loop
 unfolding lengthsOf
-same-length-15 c = ap (λ (l : Lengths). l .ram) (c .before .before .before .before .before .before .before .before .before .before .before .loop .inv .1 .lengths)
+same-length-15 c =
+    let at-struct-known = c .before .before .before .before in
+    let at-plan-at-arg = at-struct-known .before .before .before .before in
+    let at-loop = at-plan-at-arg .before .before .before in
+    ap (λ (l : Lengths). l .ram) (at-loop .loop .inv .1 .lengths)
 
 same-length-16 : tie.Need-same-length-16 Inv-loop μ-loop
-same-length-16 c = c .before .before .before .before .before .before .before .before .before .before .before .loop .inv .1 .logs .long
+same-length-16 c =
+    let at-struct-known = c .before .before .before .before in
+    let at-plan-at-arg = at-struct-known .before .before .before .before in
+    let at-loop = at-plan-at-arg .before .before .before in
+    at-loop .loop .inv .1 .logs .long
 
 returns-4 : tie.Need-returns-4 Inv-loop μ-loop
-returns-4 c = rw (c .report4 .ensures) (at-full _ _ _ _ _ _ _ _ _ _ _ _ (c .before .before .before .before .before .before .before .before .before .before .before .loop .inv .1) (λ e. c .before .before .before .before .before .before .before .before .before .before .if1 .left (e ∙ sym (c .before .before .before .before .before .before .before .before .before .before .before .loop .inv .0))) (c .before .before .before .before .before .before .before .before .before .if2 .left) _ (c .before .before .before .before .before .plan-at .ensures) (c .before .before .before .if3 .left) _ (c .before .before .both .ensures) (c .before .if4 .taken))
+returns-4 c =
+    let within4 = c .before in
+    let at-both = within4 .before in
+    let past3 = at-both .before in
+    let at-plan-at = past3 .before .before in
+    let past2 = at-plan-at .before .before .before .before in
+    let past1 = past2 .before in
+    let at-loop = past1 .before in
+    rw (c .report4 .ensures)
+    (at-full _ _ _ _ _ _ _ _ _ _ _ (at-loop .loop .inv .1) (λ e. past1 .if1 .left (e ∙ sym (at-loop .loop .inv .0))) (past2 .if2 .left) _ (at-plan-at .plan-at .ensures)
+    (past3 .if3 .left) _ (at-both .both .ensures) (within4 .if4 .taken))
 
 log-word-requires : tie.Need-log-word-requires Inv-loop μ-loop
-log-word-requires c κs = may-log _ _ _ _ _ _ _ _ _ _ _ _ (c .before .before .before .before .before .before .before .before .before .before .before .loop .inv .1) (λ e. c .before .before .before .before .before .before .before .before .before .before .if1 .left (e ∙ sym (c .before .before .before .before .before .before .before .before .before .before .before .loop .inv .0))) (c .before .before .before .before .before .before .before .before .before .if2 .left) _ (c .before .before .before .before .before .plan-at .ensures)
+log-word-requires c κs =
+    let at-struct-known = c .before .before .before .before in
+    let at-plan-at = at-struct-known .before in
+    let past2 = at-plan-at .before .before .before .before in
+    let past1 = past2 .before in
+    let at-loop = past1 .before in
+    may-log _ _ _ _ _ _ _ _ _ _ _ (at-loop .loop .inv .1) (λ e. past1 .if1 .left (e ∙ sym (at-loop .loop .inv .0))) (past2 .if2 .left) _ (at-plan-at .plan-at .ensures)
 
 push-requires : tie.Need-push-requires Inv-loop μ-loop
-push-requires c κs = may-push _ _ _ _ _ _ _ _ _ _ _ _ (c .before .before .before .before .before .before .before .before .before .before .before .before .loop .inv .1) (λ e. c .before .before .before .before .before .before .before .before .before .before .before .if1 .left (e ∙ sym (c .before .before .before .before .before .before .before .before .before .before .before .before .loop .inv .0))) (c .before .before .before .before .before .before .before .before .before .before .if2 .left) _ (c .before .before .before .before .before .before .plan-at .ensures) (c .before .before .before .before .if3 .left) _ (c .before .before .before .both .ensures) (c .before .before .if4 .left)
+push-requires c κs =
+    let past4 = c .before .before in
+    let at-both = past4 .before in
+    let past3 = at-both .before in
+    let at-plan-at = past3 .before .before in
+    let past2 = at-plan-at .before .before .before .before in
+    let past1 = past2 .before in
+    let at-loop = past1 .before in
+    may-push _ _ _ _ _ _ _ _ _ _ _ (at-loop .loop .inv .1) (λ e. past1 .if1 .left (e ∙ sym (at-loop .loop .inv .0))) (past2 .if2 .left) _ (at-plan-at .plan-at .ensures)
+    (past3 .if3 .left) _ (at-both .both .ensures) (past4 .if4 .left)
 
 add-executed : tie.Need-add-executed Inv-loop μ-loop
-add-executed c = let h = c .before .before .before .before .before .before .before .before .before .before .before .before .before .before .before .loop .inv .1 .spent in omega (arith, c .before .before .before .before .before .before .before .before .before .before .before .before .before .before .before .before .before .before .before .before .before .before .fits .budget)
+add-executed c =
+    let at-push-arg = c .before .before .before .before in
+    let at-struct-known = at-push-arg .before .before .before .before in
+    let at-plan-at-arg = at-struct-known .before .before .before .before in
+    let at-loop = at-plan-at-arg .before .before .before in
+    let at-slice-known2 = at-loop .before .before .before .before in
+    let entry = at-slice-known2 .before .before .before in
+    let h = at-loop .loop .inv .1 .spent in
+    omega (arith, entry .fits .budget)
 
 report-requires-5 : tie.Need-report-requires-5 Inv-loop μ-loop
 report-requires-5 c κs = search needs
 
 same-length-17 : tie.Need-same-length-17 Inv-loop μ-loop
 unfolding lengthsOf
-same-length-17 c = ap (λ (l : Lengths). l .unique) (c .before .before .before .before .before .before .before .before .before .before .before .before .before .before .before .before .before .before .loop .inv .1 .lengths)
+same-length-17 c =
+    let at-log = c .before .before .before .before in
+    let past4 = at-log .before .before .before .before in
+    let at-plan-at = past4 .before .before .before .before in
+    let past2 = at-plan-at .before .before .before .before in
+    let at-loop = past2 .before .before in
+    ap (λ (l : Lengths). l .unique) (at-loop .loop .inv .1 .lengths)
 
 same-length-18 : tie.Need-same-length-18 Inv-loop μ-loop
 unfolding lengthsOf
-same-length-18 c = ap (λ (l : Lengths). l .register) (c .before .before .before .before .before .before .before .before .before .before .before .before .before .before .before .before .before .before .loop .inv .1 .lengths)
+same-length-18 c =
+    let at-log = c .before .before .before .before in
+    let past4 = at-log .before .before .before .before in
+    let at-plan-at = past4 .before .before .before .before in
+    let past2 = at-plan-at .before .before .before .before in
+    let at-loop = past2 .before .before in
+    ap (λ (l : Lengths). l .register) (at-loop .loop .inv .1 .lengths)
 
 same-length-19 : tie.Need-same-length-19 Inv-loop μ-loop
 unfolding lengthsOf
-same-length-19 c = ap (λ (l : Lengths). l .ram) (c .before .before .before .before .before .before .before .before .before .before .before .before .before .before .before .before .before .before .loop .inv .1 .lengths)
+same-length-19 c =
+    let at-log = c .before .before .before .before in
+    let past4 = at-log .before .before .before .before in
+    let at-plan-at = past4 .before .before .before .before in
+    let past2 = at-plan-at .before .before .before .before in
+    let at-loop = past2 .before .before in
+    ap (λ (l : Lengths). l .ram) (at-loop .loop .inv .1 .lengths)
 
 same-length-20 : tie.Need-same-length-20 Inv-loop μ-loop
-same-length-20 c = (logs-kept _ _ _ _ _ _ _ _ _ _ _ _ (c .before .before .before .before .before .before .before .before .before .before .before .before .before .before .before .before .before .before .loop .inv .1) (λ e. c .before .before .before .before .before .before .before .before .before .before .before .before .before .before .before .before .before .if1 .left (e ∙ sym (c .before .before .before .before .before .before .before .before .before .before .before .before .before .before .before .before .before .before .loop .inv .0))) (c .before .before .before .before .before .before .before .before .before .before .before .before .before .before .before .before .if2 .left) _ (c .before .before .before .before .before .before .before .before .before .before .before .before .plan-at .ensures) (c .before .before .before .before .before .before .before .before .before .before .if3 .left) _ (c .before .before .before .before .before .before .before .before .before .both .ensures) (c .before .before .before .before .before .before .before .before .if4 .left) _ _ _ (c .before .before .before .before .before .before .log-word .ensures) (c .before .before .before .before .before .push .ensures .0) (c .before .before .before .before .before .push .ensures .1)) .long
+same-length-20 c =
+    let at-log = c .before .before .before .before in
+    let at-push = at-log .before in
+    let at-log-word = at-push .before in
+    let past4 = at-log-word .before .before in
+    let at-both = past4 .before in
+    let past3 = at-both .before in
+    let at-plan-at = past3 .before .before in
+    let past2 = at-plan-at .before .before .before .before in
+    let past1 = past2 .before in
+    let at-loop = past1 .before in
+    logs-kept _ _ _ _ _ _ _ _ _ _ _ (at-loop .loop .inv .1) (λ e. past1 .if1 .left (e ∙ sym (at-loop .loop .inv .0))) (past2 .if2 .left) _ (at-plan-at .plan-at .ensures)
+    (past3 .if3 .left) _ (at-both .both .ensures)
+    (past4 .if4 .left) _ _ _ (at-log-word .log-word .ensures) (at-push .push .ensures .0) (at-push .push .ensures .1) .long
 
 returns-5 : tie.Need-returns-5 Inv-loop μ-loop
-returns-5 c = rw (c .report5 .ensures) (at-exit _ _ _ _ _ _ _ _ _ _ _ _ (c .before .before .before .before .before .before .before .before .before .before .before .before .before .before .before .before .before .before .loop .inv .1) (λ e. c .before .before .before .before .before .before .before .before .before .before .before .before .before .before .before .before .before .if1 .left (e ∙ sym (c .before .before .before .before .before .before .before .before .before .before .before .before .before .before .before .before .before .before .loop .inv .0))) (c .before .before .before .before .before .before .before .before .before .before .before .before .before .before .before .before .if2 .left) _ (c .before .before .before .before .before .before .before .before .before .before .before .before .plan-at .ensures) (c .before .before .before .before .before .before .before .before .before .before .if3 .left) _ (c .before .before .before .before .before .before .before .before .before .both .ensures) (c .before .before .before .before .before .before .before .before .if4 .left) _ _ _ (c .before .before .before .before .before .before .log-word .ensures) (c .before .before .before .before .before .push .ensures .0) (c .before .before .before .before .before .push .ensures .1) (c .before .if5 .taken))
+returns-5 c =
+    let within5 = c .before in
+    let at-push = within5 .before .before .before .before in
+    let at-log-word = at-push .before in
+    let past4 = at-log-word .before .before in
+    let at-both = past4 .before in
+    let past3 = at-both .before in
+    let at-plan-at = past3 .before .before in
+    let past2 = at-plan-at .before .before .before .before in
+    let past1 = past2 .before in
+    let at-loop = past1 .before in
+    rw (c .report5 .ensures)
+    (at-exit _ _ _ _ _ _ _ _ _ _ _ (at-loop .loop .inv .1) (λ e. past1 .if1 .left (e ∙ sym (at-loop .loop .inv .0))) (past2 .if2 .left) _ (at-plan-at .plan-at .ensures)
+    (past3 .if3 .left) _ (at-both .both .ensures)
+    (past4 .if4 .left) _ _ _ (at-log-word .log-word .ensures) (at-push .push .ensures .0) (at-push .push .ensures .1) (within5 .if5 .taken))
 
 write-requires : tie.Need-write-requires Inv-loop μ-loop
-write-requires c κs = may-write _ _ _ _ _ _ _ _ _ _ _ _ (c .before .before .before .before .before .before .before .before .before .before .before .before .before .before .before .before .before .before .before .before .before .loop .inv .1) (λ e. c .before .before .before .before .before .before .before .before .before .before .before .before .before .before .before .before .before .before .before .before .if1 .left (e ∙ sym (c .before .before .before .before .before .before .before .before .before .before .before .before .before .before .before .before .before .before .before .before .before .loop .inv .0))) (c .before .before .before .before .before .before .before .before .before .before .before .before .before .before .before .before .before .before .before .if2 .left) _ (c .before .before .before .before .before .before .before .before .before .before .before .before .before .before .before .plan-at .ensures)
+write-requires c κs =
+    let past5 = c .before .before .before .before in
+    let at-push = past5 .before .before .before .before in
+    let at-both = at-push .before .before .before .before in
+    let at-plan-at = at-both .before .before .before in
+    let past2 = at-plan-at .before .before .before .before in
+    let past1 = past2 .before in
+    let at-loop = past1 .before in
+    may-write _ _ _ _ _ _ _ _ _ _ _ (at-loop .loop .inv .1) (λ e. past1 .if1 .left (e ∙ sym (at-loop .loop .inv .0))) (past2 .if2 .left) _ (at-plan-at .plan-at .ensures)
 
 loop-less : tie.Need-loop-less Inv-loop μ-loop
-loop-less c = let h = c .before .before .before .before .before .before .before .before .before .before .before .before .before .before .before .before .before .before .before .before .before .before .before .before .before .before .before .before .loop .inv .1 .spent in omega (arith, c .before .before .before .before .before .before .before .before .before .before .before .before .before .before .before .before .before .before .before .before .before .before .before .before .before .before .if2 .left)
+loop-less c =
+    let at-slice-known6 = c .before .before .before .before in
+    let at-write-arg2 = at-slice-known6 .before .before .before .before in
+    let at-struct-known2 = at-write-arg2 .before .before .before .before in
+    let at-log-word = at-struct-known2 .before .before .before .before in
+    let past3 = at-log-word .before .before .before .before in
+    let at-plan-at-arg2 = past3 .before .before .before .before in
+    let past2 = at-plan-at-arg2 .before .before in
+    let at-loop = past2 .before .before in
+    let h = at-loop .loop .inv .1 .spent in
+    omega (arith, past2 .if2 .left)
 
 loop-again : tie.Need-loop-again Inv-loop μ-loop
-loop-again c = (c .before .before .before .before .before .before .before .before .before .before .before .before .before .before .before .before .before .before .before .before .before .before .before .before .before .before .before .before .loop .inv .0, at-next _ _ _ _ _ _ _ _ _ _ _ _ (c .before .before .before .before .before .before .before .before .before .before .before .before .before .before .before .before .before .before .before .before .before .before .before .before .before .before .before .before .loop .inv .1) (λ e. c .before .before .before .before .before .before .before .before .before .before .before .before .before .before .before .before .before .before .before .before .before .before .before .before .before .before .before .if1 .left (e ∙ sym (c .before .before .before .before .before .before .before .before .before .before .before .before .before .before .before .before .before .before .before .before .before .before .before .before .before .before .before .before .loop .inv .0))) (c .before .before .before .before .before .before .before .before .before .before .before .before .before .before .before .before .before .before .before .before .before .before .before .before .before .before .if2 .left) _ (c .before .before .before .before .before .before .before .before .before .before .before .before .before .before .before .before .before .before .before .before .before .before .plan-at .ensures) (c .before .before .before .before .before .before .before .before .before .before .before .before .before .before .before .before .before .before .before .before .if3 .left) _ (c .before .before .before .before .before .before .before .before .before .before .before .before .before .before .before .before .before .before .before .both .ensures) (c .before .before .before .before .before .before .before .before .before .before .before .before .before .before .before .before .before .before .if4 .left) _ _ _ (c .before .before .before .before .before .before .before .before .before .before .before .before .before .before .before .before .log-word .ensures) (c .before .before .before .before .before .before .before .before .before .before .before .before .before .before .before .push .ensures .0) (c .before .before .before .before .before .before .before .before .before .before .before .before .before .before .before .push .ensures .1) (c .before .before .before .before .before .before .before .before .before .before .before .if5 .left) _ (c .before .before .before .before .before .before .write .ensures) (of-bytes _ _ _ (λ j. c .before .before .before .before .slice-known6 .given j .fits) (λ j. c .before .before .slice-known7 .given j .fits) (λ j. c .slice-known8 .given j .fits)))
+loop-again c =
+    let at-slice-known7 = c .before .before in
+    let at-slice-known6 = at-slice-known7 .before .before in
+    let at-write = at-slice-known6 .before .before in
+    let at-target = at-write .before .before .before .before in
+    let past5 = at-target .before in
+    let at-push = past5 .before .before .before .before in
+    let at-log-word = at-push .before in
+    let past4 = at-log-word .before .before in
+    let at-both = past4 .before in
+    let past3 = at-both .before in
+    let at-plan-at = past3 .before .before in
+    let past2 = at-plan-at .before .before .before .before in
+    let past1 = past2 .before in
+    let at-loop = past1 .before in (
+      at-loop .loop .inv .0,
+      at-next _ _ _ _ _ _ _ _ _ _ _ (at-loop .loop .inv .1) (λ e. past1 .if1 .left (e ∙ sym (at-loop .loop .inv .0))) (past2 .if2 .left) _ (at-plan-at .plan-at .ensures)
+          (past3 .if3 .left) _ (at-both .both .ensures)
+          (past4 .if4 .left) _ _ _ (at-log-word .log-word .ensures) (at-push .push .ensures .0) (at-push .push .ensures .1)
+          (past5 .if5 .left) _ (at-write .write .ensures)
+          (of-bytes _ _ _ (λ j. at-slice-known6 .slice-known6 .given j .fits) (λ j. at-slice-known7 .slice-known7 .given j .fits) (λ j. c .slice-known8 .given j .fits)),
+    )
 
 pub run-from-spec : {M : Type 1} → statement M
 run-from-spec =

@@ -1,10 +1,9 @@
--- `plan::branch_at` meets its contract. Assumes nothing.
-use Rattle.plan.proofs.Planning.{skipped, away, along}
+-- `plan::branch_at` meets its contract.
 use Rattle.machine.specs.Effect.{operationAt}
+use Rattle.plan.proofs.Planning.{code-skips, code-leaves, code-follows}
 use borrow.Author.Needs.{needs}
 use Rattle.plan.proofs.branch_at.Statement.{statement}
 use Rattle.plan.proofs.branch_at.Tie as tie
-use Rattle.plan.proofs.branch_at.Lts as lts
 
 opcode-at-requires : tie.Need-opcode-at-requires
 opcode-at-requires c κs = search needs
@@ -23,7 +22,12 @@ unwritten-requires c κs = search needs
 
 returns : tie.Need-returns
 unfolding operationAt
-returns c = skipped _ _ _ _ _ (c .before .before .before .before .opcode-at .ensures) (c .before .before .before .varnode-at .ensures) _ (c .before .before .both .ensures) _ (c .before .if1 .taken) (c .unwritten .ensures)
+returns c =
+    let tested = c .before .before in
+    let decoded = tested .before .before in
+    let entry = decoded .before .before in
+    code-skips _ _ _ _ _ (decoded .opcode-at .ensures) (tested .before .varnode-at .ensures) (entry .pre .2) _ (tested .both .ensures) _
+    (c .before .if1 .taken) (c .unwritten .ensures)
 
 flag-requires : tie.Need-flag-requires
 flag-requires c κs = search needs
@@ -33,7 +37,13 @@ unwritten-requires-2 c κs = search needs
 
 returns-2 : tie.Need-returns-2
 unfolding operationAt
-returns-2 c = away _ _ _ _ _ (c .before .before .before .before .before .before .before .opcode-at .ensures) (c .before .before .before .before .before .before .varnode-at .ensures) _ (c .before .before .before .before .before .both .ensures) _ _ (c .before .before .before .flag .ensures) (c .before .before .before .before .if1 .left) (c .before .if2 .taken) (c .unwritten2 .ensures)
+returns-2 c =
+    let flagged = c .before .before .before in
+    let tested = flagged .before .before in
+    let decoded = tested .before .before in
+    let entry = decoded .before .before in
+    code-leaves _ _ _ _ _ (decoded .opcode-at .ensures) (tested .before .varnode-at .ensures) (entry .pre .2) _ (tested .both .ensures) _
+    _ (flagged .flag .ensures) (flagged .before .if1 .left) (c .before .if2 .taken) (c .unwritten2 .ensures)
 
 wrapping-add-u64-requires : tie.Need-wrapping-add-u64-requires
 wrapping-add-u64-requires c κs = search needs
@@ -43,7 +53,13 @@ unwritten-requires-3 c κs = search needs
 
 returns-3 : tie.Need-returns-3
 unfolding operationAt
-returns-3 c = along _ _ _ _ _ (c .before .before .before .before .before .before .before .before .opcode-at .ensures) (c .before .before .before .before .before .before .before .varnode-at .ensures) _ (c .before .before .before .before .before .before .both .ensures) _ _ (c .before .before .before .before .flag .ensures) (c .before .before .before .before .before .if1 .left) (c .before .before .if2 .left) _ (c .before .wrapping-add-u64 .ensures) (c .unwritten3 .ensures)
+returns-3 c =
+    let flagged = c .before .before .before .before in
+    let tested = flagged .before .before in
+    let decoded = tested .before .before in
+    let entry = decoded .before .before in
+    code-follows _ _ _ _ _ (decoded .opcode-at .ensures) (tested .before .varnode-at .ensures) (entry .pre .2) _ (tested .both .ensures) _
+    _ (flagged .flag .ensures) (flagged .before .if1 .left) (c .before .before .if2 .left) _ (c .before .wrapping-add-u64 .ensures) (c .unwritten3 .ensures)
 
 pub branch-at-spec : {M : Type 1} → statement M
 branch-at-spec =

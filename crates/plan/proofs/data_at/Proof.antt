@@ -1,10 +1,9 @@
--- `plan::data_at` meets its contract. Assumes nothing.
-use Rattle.plan.proofs.Planning.{left, by-zero, copied, computed, computable}
+-- `plan::data_at` meets its contract.
 use Rattle.machine.specs.Effect.{operationAt}
+use Rattle.plan.proofs.Planning.{code-jumps, code-by-zero, code-copies, may-compute, code-computes}
 use borrow.Author.Needs.{needs}
 use Rattle.plan.proofs.data_at.Statement.{statement}
 use Rattle.plan.proofs.data_at.Tie as tie
-use Rattle.plan.proofs.data_at.Lts as lts
 
 opcode-at-requires : tie.Need-opcode-at-requires
 opcode-at-requires c κs = search needs
@@ -17,7 +16,10 @@ unwritten-requires c κs = search needs
 
 returns : tie.Need-returns
 unfolding operationAt
-returns c = left _ _ _ _ _ (c .before .before .before .opcode-at .ensures) _ (c .before .before .jumps .ensures) _ (c .before .if1 .taken) (c .unwritten .ensures)
+returns c =
+    let decoded = c .before .before .before in
+    let entry = decoded .before .before in
+    code-jumps _ _ _ _ (decoded .opcode-at .ensures) (entry .pre .2) _ (c .before .before .jumps .ensures) _ _ (c .before .if1 .taken) (c .unwritten .ensures)
 
 is-division-requires : tie.Need-is-division-requires
 is-division-requires c κs = search needs
@@ -30,7 +32,13 @@ unwritten-requires-2 c κs = search needs
 
 returns-2 : tie.Need-returns-2
 unfolding operationAt
-returns-2 c = let d = c .before .before .before .is-division .ensures in by-zero _ _ _ _ _ (c .before .before .before .before .before .before .opcode-at .ensures) _ (c .before .before .before .before .before .jumps .ensures) _ (c .before .before .before .before .if1 .left) _ (rw d at (c .before .before .both .ensures)) (c .before .if2 .taken) (c .unwritten2 .ensures)
+returns-2 c =
+    let tested = c .before .before in
+    let stays = tested .before .before in
+    let decoded = stays .before .before in
+    let entry = decoded .before .before in
+    code-by-zero _ _ _ _ (decoded .opcode-at .ensures) (entry .pre .2) _ (stays .before .jumps .ensures) (stays .if1 .left)
+    _ _ (tested .before .is-division .ensures) (tested .both .ensures) _ _ (c .before .if2 .taken) (c .unwritten2 .ensures)
 
 varnode-at-requires : tie.Need-varnode-at-requires
 varnode-at-requires c κs = search needs
@@ -40,7 +48,14 @@ writes-requires c κs = search needs
 
 returns-3 : tie.Need-returns-3
 unfolding operationAt
-returns-3 c = let d = c .before .before .before .before .before .is-division .ensures in copied _ _ _ _ _ (c .before .before .before .before .before .before .before .before .opcode-at .ensures) _ (c .before .before .before .before .before .before .before .jumps .ensures) _ (c .before .before .before .before .before .before .if1 .left) _ (rw d at (c .before .before .before .before .both .ensures)) (c .before .before .before .if2 .left) _ (c .before .before .varnode-at .ensures) (c .before .if3 .taken) (c .writes .ensures)
+returns-3 c =
+    let tested = c .before .before .before .before in
+    let stays = tested .before .before in
+    let decoded = stays .before .before in
+    let entry = decoded .before .before in
+    code-copies _ _ _ _ (decoded .opcode-at .ensures) (entry .pre .2) _ (stays .before .jumps .ensures) (stays .if1 .left)
+    _ _ (tested .before .is-division .ensures) (tested .both .ensures) (c .before .before .before .if2 .left)
+    _ (c .before .before .varnode-at .ensures) _ _ (c .before .if3 .taken) (c .writes .ensures)
 
 varnode-at-requires-2 : tie.Need-varnode-at-requires-2
 varnode-at-requires-2 c κs = search needs
@@ -50,14 +65,31 @@ varnode-at-requires-3 c κs = search needs
 
 value-requires : tie.Need-value-requires
 unfolding operationAt
-value-requires c κs = let d = c .before .before .before .before .before .before .is-division .ensures in computable _ _ _ _ (c .before .before .before .before .before .before .before .before .before .before .before .pre .2) (c .before .before .before .before .before .before .before .before .before .opcode-at .ensures) _ (c .before .before .before .before .before .before .before .before .jumps .ensures) (c .before .before .before .before .before .before .before .if1 .left) _ (rw d at (c .before .before .before .before .before .both .ensures)) (c .before .before .before .before .if2 .left) (c .before .before .if3 .left) _ _ _ (c .before .before .before .varnode-at .ensures) (c .before .varnode-at2 .ensures) (c .varnode-at3 .ensures)
+value-requires c κs =
+    let computing = c .before .before in
+    let tested = computing .before .before .before in
+    let stays = tested .before .before in
+    let decoded = stays .before .before in
+    let entry = decoded .before .before in
+    may-compute _ _ _ _ (decoded .opcode-at .ensures) (entry .pre .2) _ (stays .before .jumps .ensures) (stays .if1 .left)
+    _ _ (tested .before .is-division .ensures) (tested .both .ensures) (computing .before .before .if2 .left)
+    _ (computing .before .varnode-at .ensures) (computing .if3 .left) _ _ (c .before .varnode-at2 .ensures) (c .varnode-at3 .ensures)
 
 writes-requires-2 : tie.Need-writes-requires-2
 writes-requires-2 c κs = search needs
 
 returns-4 : tie.Need-returns-4
 unfolding operationAt
-returns-4 c = let d = c .before .before .before .before .before .before .before .before .is-division .ensures in computed _ _ _ _ _ (c .before .before .before .before .before .before .before .before .before .before .before .opcode-at .ensures) _ (c .before .before .before .before .before .before .before .before .before .before .jumps .ensures) _ (c .before .before .before .before .before .before .before .before .before .if1 .left) _ (rw d at (c .before .before .before .before .before .before .before .both .ensures)) (c .before .before .before .before .before .before .if2 .left) _ (c .before .before .before .before .before .varnode-at .ensures) (c .before .before .before .before .if3 .left) _ _ (c .before .before .before .varnode-at2 .ensures) (c .before .before .varnode-at3 .ensures) _ (c .before .value .ensures) (c .writes2 .ensures)
+returns-4 c =
+    let computing = c .before .before .before .before in
+    let tested = computing .before .before .before in
+    let stays = tested .before .before in
+    let decoded = stays .before .before in
+    let entry = decoded .before .before in
+    code-computes _ _ _ _ (decoded .opcode-at .ensures) (entry .pre .2) _ (stays .before .jumps .ensures) (stays .if1 .left)
+    _ _ (tested .before .is-division .ensures) (tested .both .ensures) (computing .before .before .if2 .left)
+    _ (computing .before .varnode-at .ensures) (computing .if3 .left) _ _ (c .before .before .before .varnode-at2 .ensures) (c .before .before .varnode-at3 .ensures)
+    _ _ _ (c .before .value .ensures) (c .writes2 .ensures)
 
 pub data-at-spec : {M : Type 1} → statement M
 data-at-spec =

@@ -1,11 +1,11 @@
--- `plan::move_at` meets its contract. Assumes nothing.
-use Rattle.plan.proofs.Planning.{moved-size, source, sink, outside, inside, moved}
+-- `plan::move_at` meets its contract.
 use Rattle.machine.specs.Effect.{operationAt}
+use Rattle.machine.specs.Program.{programOf}
 use Rattle.machine.specs.Memory.{lengthsOf}
+use Rattle.plan.proofs.Planning.{code-outside, may-read, code-moves}
 use borrow.Author.Needs.{needs}
 use Rattle.plan.proofs.move_at.Statement.{statement}
 use Rattle.plan.proofs.move_at.Tie as tie
-use Rattle.plan.proofs.move_at.Lts as lts
 
 opcode-at-requires : tie.Need-opcode-at-requires
 opcode-at-requires c κs = search needs
@@ -33,24 +33,55 @@ unwritten-requires c κs = search needs
 
 returns : tie.Need-returns
 unfolding operationAt lengthsOf
-returns c = outside _ _ _ _ _ _ (c .before .before .before .before .before .before .varnode-at2 .ensures) _ (moved-size _ _ _ _ (c .before .before .before .before .before .before .before .before .opcode-at .ensures) (c .before .before .before .before .before .before .before .varnode-at .ensures) (c .before .before .before .before .before .varnode-at3 .ensures) _ (c .before .before .before .before .choose .ensures)) _ (c .before .before .before .length-of .ensures) _ (c .before .before .within .ensures) _ (c .before .if1 .taken) (c .unwritten .ensures)
+returns c =
+    let tested = c .before .before in
+    let sized = tested .before .before in
+    let decoded = sized .before .before .before .before in
+    let entry = decoded .before .before .before .before in
+    code-outside _ _ _ _ _ _ _ _ (decoded .opcode-at .ensures) (sized .before .before .before .varnode-at .ensures)
+    (sized .before .before .varnode-at2 .ensures) (sized .before .varnode-at3 .ensures) (sized .choose .ensures) (entry .before .pre .2)
+    _ (tested .before .length-of .ensures) _ (tested .within .ensures)
+    (programOf (entry .before .args .settings) _) _ _ (c .before .if1 .taken) (c .unwritten .ensures)
 
 choose-requires-2 : tie.Need-choose-requires-2
 choose-requires-2 c κs = search needs
 
 read-requires : tie.Need-read-requires
 unfolding operationAt lengthsOf
-read-requires c κs = inside (c .before .before .before .before .before .before .before .before .before .before .before .before .before .args .big) _ _ (c .before .before .before .before .before .before .before .before .before .before .before .before .before .args .i) _ _ (c .before .before .before .before .before .before .varnode-at2 .ensures) _ (moved-size _ _ _ _ (c .before .before .before .before .before .before .before .before .opcode-at .ensures) (c .before .before .before .before .before .before .before .varnode-at .ensures) (c .before .before .before .before .before .varnode-at3 .ensures) _ (c .before .before .before .before .choose .ensures)) _ (c .before .before .before .length-of .ensures) _ (c .before .before .within .ensures) (c .before .if1 .left) (c .before .before .before .before .before .before .before .before .before .before .before .before .before .pre .2) _ (source _ _ _ _ (c .before .before .before .before .before .before .before .before .opcode-at .ensures) (c .before .before .before .before .before .before .before .varnode-at .ensures) (c .before .before .before .before .before .varnode-at3 .ensures) _ (c .before .before .before .before .choose .ensures) _ _ _ (c .before .before .before .before .before .before .varnode-at2 .ensures) (c .choose2 .ensures))
+read-requires c κs =
+    let tested = c .before .before in
+    let sized = tested .before .before in
+    let decoded = sized .before .before .before .before in
+    let entry = decoded .before .before .before .before in
+    may-read _ _ _ _ _ _ _ _ (decoded .opcode-at .ensures) (sized .before .before .before .varnode-at .ensures)
+    (sized .before .before .varnode-at2 .ensures) (sized .before .varnode-at3 .ensures) (sized .choose .ensures) (entry .before .pre .2)
+    _ (tested .before .length-of .ensures) _ (tested .within .ensures)
+    (c .before .if1 .left) _ (c .choose2 .ensures)
 
 choose-requires-3 : tie.Need-choose-requires-3
 choose-requires-3 c κs = search needs
 
 writes-requires : tie.Need-writes-requires
-writes-requires c κs = c .before .before .before .before .before .before .before .before .before .before .before .before .before .before .before .pre .1
+writes-requires c κs =
+    let tested = c .before .before .before .before in
+    let sized = tested .before .before in
+    let decoded = sized .before .before .before .before in
+    let entry = decoded .before .before .before .before in
+    entry .before .pre .1
 
 returns-2 : tie.Need-returns-2
 unfolding operationAt lengthsOf
-returns-2 c = moved _ _ _ _ _ _ (c .before .before .before .before .before .before .before .before .before .varnode-at2 .ensures) _ (moved-size _ _ _ _ (c .before .before .before .before .before .before .before .before .before .before .before .opcode-at .ensures) (c .before .before .before .before .before .before .before .before .before .before .varnode-at .ensures) (c .before .before .before .before .before .before .before .before .varnode-at3 .ensures) _ (c .before .before .before .before .before .before .before .choose .ensures)) _ (c .before .before .before .before .before .before .length-of .ensures) _ (c .before .before .before .before .before .within .ensures) _ (c .before .before .before .before .if1 .left) _ _ _ (source _ _ _ _ (c .before .before .before .before .before .before .before .before .before .before .before .opcode-at .ensures) (c .before .before .before .before .before .before .before .before .before .before .varnode-at .ensures) (c .before .before .before .before .before .before .before .before .varnode-at3 .ensures) _ (c .before .before .before .before .before .before .before .choose .ensures) _ _ _ (c .before .before .before .before .before .before .before .before .before .varnode-at2 .ensures) (c .before .before .before .choose2 .ensures)) (c .before .before .read .ensures) (sink _ _ _ _ (c .before .before .before .before .before .before .before .before .before .before .before .opcode-at .ensures) (c .before .before .before .before .before .before .before .before .before .before .varnode-at .ensures) (c .before .before .before .before .before .before .before .before .varnode-at3 .ensures) _ (c .before .before .before .before .before .before .before .choose .ensures) _ _ _ (c .before .before .before .before .before .before .before .before .before .varnode-at2 .ensures) (c .before .choose3 .ensures)) (c .writes .ensures)
+returns-2 c =
+    let inside = c .before .before .before .before in
+    let tested = inside .before in
+    let sized = tested .before .before in
+    let decoded = sized .before .before .before .before in
+    let entry = decoded .before .before .before .before in
+    code-moves _ _ _ _ _ _ _ _ (decoded .opcode-at .ensures) (sized .before .before .before .varnode-at .ensures)
+    (sized .before .before .varnode-at2 .ensures) (sized .before .varnode-at3 .ensures) (sized .choose .ensures) (entry .before .pre .2)
+    _ (tested .before .length-of .ensures) _ (tested .within .ensures)
+    (inside .if1 .left) _ (c .before .before .before .choose2 .ensures) (programOf (entry .before .args .settings) _) _ _ _
+    (c .before .before .read .ensures) _ (c .before .choose3 .ensures) (c .writes .ensures)
 
 pub move-at-spec : {M : Type 1} → statement M
 move-at-spec =

@@ -1,46 +1,71 @@
--- `runs::run` meets its contract. Assumes nothing.
-use Rattle.runs.proofs.Accepted.{accepted, leaves-as-lent, leaves-run}
-use Rattle.machine.specs.Calls.{plainRun}
+-- `runs::run` meets its contract.
 use native.Mathlib.Omega.{arith}
-use mathlib.Core.Path.{refl, _∙_}
+use mathlib.Core.Path.{_∙_}
+use Rattle.machine.specs.Calls.{unlabelled, plainRun}
+use Rattle.runs.proofs.Accepted.{accepted, leaves-as-lent, leaves-run, none-fit, plain-of}
+use borrow.Author.Needs.{needs}
 use Rattle.runs.proofs.run.Statement.{statement}
 use Rattle.runs.proofs.run.Tie as tie
-use Rattle.runs.proofs.run.Lts as lts
 
 plain-refusal-requires : tie.Need-plain-refusal-requires
-plain-refusal-requires c κs = tt
+plain-refusal-requires c κs = search needs
 
 same-length : tie.Need-same-length
-same-length c = refl
+same-length c = search needs
 
 same-length-2 : tie.Need-same-length-2
-same-length-2 c = refl
+same-length-2 c = search needs
 
 same-length-3 : tie.Need-same-length-3
-same-length-3 c = refl
+same-length-3 c = search needs
 
 returns : tie.Need-returns
 unfolding plainRun
-returns c = leaves-as-lent _ _ _ _ _ _ _ _ _ (c .before .before .plain-refusal .ensures) (c .if1 .taken)
+returns c =
+    let at-plain-refusal = c .before .before in
+    leaves-as-lent _ _ _ _ _ _ _ _ _ (at-plain-refusal .plain-refusal .ensures) (c .if1 .taken)
 
-run-from-requires : tie.Need-run-from-requires
-run-from-requires c κs = let a = accepted _ _ _ _ _ _ _ (c .before .before .before .before .before .before .before .plain-refusal .ensures) (c .before .before .before .before .before .if1 .left) in (a .0, a .1, omega arith)
+slice-aggregate-run-any : tie.Need-slice-aggregate-run-any
+slice-aggregate-run-any c = search needs
+
+slice-aggregate-run-any-2 : tie.Need-slice-aggregate-run-any-2
+slice-aggregate-run-any-2 c = search needs
+
+slice-aggregate-run-any-3 : tie.Need-slice-aggregate-run-any-3
+slice-aggregate-run-any-3 c = search needs
+
+run-any-requires : tie.Need-run-any-requires
+unfolding unlabelled
+run-any-requires c κs =
+    let at-run-any-arg3 = c .before .before .before .before in
+    let past1 = at-run-any-arg3 .before .before .before in
+    let at-plain-refusal = past1 .before .before in
+    let a = accepted _ _ _ _ _ _ _ (at-plain-refusal .plain-refusal .ensures) (past1 .if1 .left) in
+    (a .0, a .1, omega arith, none-fit)
 
 same-length-4 : tie.Need-same-length-4
-same-length-4 c = c .before .before .before .before .before .before .before .before .run-from .kept .1 .1 .0
+same-length-4 c = search needs
 
 same-length-5 : tie.Need-same-length-5
-same-length-5 c = c .before .before .before .before .before .before .before .before .run-from .kept .1 .1 .1 .0
+same-length-5 c = search needs
 
 same-length-6 : tie.Need-same-length-6
-same-length-6 c = c .before .before .before .before .before .before .before .before .run-from .kept .1 .1 .1 .1 .0
+same-length-6 c = search needs
 
 same-length-7 : tie.Need-same-length-7
-same-length-7 c = c .before .before .before .before .before .before .before .before .run-from .kept .1 .1 .1 .1 .1 .0
+same-length-7 c = search needs
 
 returns-2 : tie.Need-returns-2
-unfolding plainRun
-returns-2 c = c .before .before .before .before .before .before .before .before .run-from .ensures ∙ leaves-run _ _ _ _ _ _ _ _ _ (c .before .before .before .before .before .before .before .before .before .before .before .before .before .before .before .before .plain-refusal .ensures) (c .before .before .before .before .before .before .before .before .before .before .before .before .before .before .if1 .left)
+unfolding plainRun unlabelled
+returns-2 c =
+    let at-unique-labels2 = c .before .before .before .before in
+    let at-register = at-unique-labels2 .before .before .before .before in
+    let at-run-any = at-register .before .before .before in
+    let at-unique-labels = at-run-any .before .before .before .before in
+    let past1 = at-unique-labels .before .before .before .before in
+    let at-plain-refusal = past1 .before .before in
+    plain-of _ _ _ _ _ _ _ (at-run-any .run-any .kept .1 .1 .1 .1 .1 .1 .0) (at-run-any .run-any .kept .1 .1 .1 .1 .1 .1 .1 .0) (at-run-any .run-any .kept .1 .1 .1 .1 .1 .1 .1 .1 .0)
+    (at-run-any .run-any .ensures ∙ leaves-run _ _ _ _ _ _ _ _ _ (at-plain-refusal .plain-refusal .ensures) (past1 .if1 .left))
 
 pub run-spec : {M : Type 1} → statement M
 run-spec =
@@ -51,7 +76,10 @@ run-spec =
     same-length-2
     same-length-3
     returns
-    run-from-requires
+    slice-aggregate-run-any
+    slice-aggregate-run-any-2
+    slice-aggregate-run-any-3
+    run-any-requires
     same-length-4
     same-length-5
     same-length-6

@@ -1,7 +1,8 @@
--- `memory::varnode::write` meets its contract. Assumes nothing.
+-- `memory::varnode::write` meets its contract.
 use mathlib.Core.Path.{sym}
 use borrow.Author.Needs.{needs}
 use lib.Dec.{lit≤}
+use Rattle.machine.specs.Program.{bigEndian}
 use Rattle.machine.specs.Memory.{spaceOf, withSpace}
 use Rattle.memory.proofs.Spaces.{placed-in, written-in, written-elsewhere}
 use Rattle.memory.proofs.varnode.write.Statement.{statement}
@@ -10,40 +11,43 @@ use Rattle.memory.proofs.varnode.write.Tie as tie
 scatter-requires : tie.Need-scatter-requires
 unfolding spaceOf
 scatter-requires c κs =
-    let p = c .before .before .before .before .before .pre in
+    let entry = c .before .before .before .before in
+    let p = entry .before .before .pre in
     (p .size, placed-in _ _ 2 (c .before .match .keys1) (lit≤ tt) p)
 
 scatter-requires-2 : tie.Need-scatter-requires-2
 unfolding spaceOf
 scatter-requires-2 c κs =
-    let p = c .before .before .before .before .before .pre in
+    let entry = c .before .before .before .before in
+    let p = entry .before .before .pre in
     (p .size, placed-in _ _ 3 (c .before .match .keys2) (lit≤ tt) p)
 
 scatter-requires-3 : tie.Need-scatter-requires-3
 unfolding spaceOf
 scatter-requires-3 c κs =
-    let p = c .before .before .before .before .before .pre in
+    let entry = c .before .before .before .before in
+    let p = entry .before .before .pre in
     (p .size, placed-in _ _ 4 (c .before .match .keys3) (lit≤ tt) p)
 
 same-length : tie.Need-same-length
 same-length c = search needs
 
 returns : tie.Need-returns
-unfolding spaceOf withSpace
+unfolding spaceOf withSpace bigEndian
 returns c = written-in _ _ 2 (c .before .before .before .before .match .keys1) _ _ (c .before .before .scatter .ensures)
 
 same-length-2 : tie.Need-same-length-2
 same-length-2 c = search needs
 
 returns-2 : tie.Need-returns-2
-unfolding spaceOf withSpace
+unfolding spaceOf withSpace bigEndian
 returns-2 c = written-in _ _ 3 (c .before .before .before .before .match .keys2) _ _ (c .before .before .scatter2 .ensures)
 
 same-length-3 : tie.Need-same-length-3
 same-length-3 c = search needs
 
 returns-3 : tie.Need-returns-3
-unfolding spaceOf withSpace
+unfolding spaceOf withSpace bigEndian
 returns-3 c = written-in _ _ 4 (c .before .before .before .before .match .keys3) _ _ (c .before .before .scatter3 .ensures)
 
 returns-4 : tie.Need-returns-4

@@ -1,0 +1,122 @@
+-- `labelled::step_at` meets its contract.
+use Rattle.machine.specs.Program.{programOf}
+use Rattle.plan.proofs.Places.{of-bytes}
+use Rattle.labelled.proofs.OneTurn.{labels-valid, may-mark, turned}
+use borrow.Author.Needs.{needs}
+use Rattle.labelled.proofs.step_at.Statement.{statement}
+use Rattle.labelled.proofs.step_at.Tie as tie
+
+leaks-within-requires : tie.Need-leaks-within-requires
+leaks-within-requires c κs =
+    let at-slice-known6 = c .before .before .before .before in
+    let at-slice-known2 = at-slice-known6 .before .before .before .before in
+    let entry = at-slice-known2 .before .before .before in
+    let pre = entry .pre in
+    (labels-valid (pre .0) (pre .3), pre .1)
+
+unless-requires : tie.Need-unless-requires
+unless-requires c κs = search needs
+
+run-from-requires : tie.Need-run-from-requires
+run-from-requires c κs =
+    let at-run-from-arg = c .before .before .before .before in
+    let at-leaks-within-arg = at-run-from-arg .before .before .before .before in
+    let at-slice-known4 = at-leaks-within-arg .before .before .before .before in
+    let at-shared-slice-known = at-slice-known4 .before .before .before .before in
+    let entry = at-shared-slice-known .before in
+    let pre = entry .pre in
+    (pre .0, pre .1, pre .2)
+
+went-on-requires : tie.Need-went-on-requires
+went-on-requires c κs = search needs
+
+mark-after-requires : tie.Need-mark-after-requires
+mark-after-requires c κs =
+    let at-went-on = c .before .before .before .before in
+    let at-ram = at-went-on .before .before .before .before in
+    let at-unique = at-ram .before .before .before .before in
+    let at-run-from = at-unique .before in
+    let at-unless = at-run-from .before in
+    let at-run-from-arg = at-unless .before .before .before .before in
+    let at-leaks-within = at-run-from-arg .before in
+    let at-slice-known7 = at-leaks-within .before .before .before .before in
+    let at-slice-known3 = at-slice-known7 .before .before .before .before in
+    let at-slice-known2 = at-slice-known3 .before in
+    let at-slice-known = at-slice-known2 .before in
+    let at-shared-slice-known = at-slice-known .before in
+    let entry = at-shared-slice-known .before in
+    let pre = entry .pre in
+    may-mark _ (programOf (entry .args .settings) _) _ _ _ _ _ _ (λ j. at-shared-slice-known .shared-slice-known .given j .fits)
+    (of-bytes _ _ _ (λ j. at-slice-known .slice-known .given j .fits) (λ j. at-slice-known2 .slice-known2 .given j .fits)
+    (λ j. at-slice-known3 .slice-known3 .given j .fits)) (pre .0) (pre .2) (pre .3) (pre .4)
+    _ (at-leaks-within .leaks-within .ensures) _ (at-unless .unless .ensures) _ _ _ (at-run-from .run-from .ensures)
+    _ (at-went-on .went-on .ensures)
+
+answer-requires : tie.Need-answer-requires
+answer-requires c κs = search needs
+
+same-length : tie.Need-same-length
+same-length c = search needs
+
+same-length-2 : tie.Need-same-length-2
+same-length-2 c = search needs
+
+same-length-3 : tie.Need-same-length-3
+same-length-3 c = search needs
+
+same-length-4 : tie.Need-same-length-4
+same-length-4 c = search needs
+
+same-length-5 : tie.Need-same-length-5
+same-length-5 c = search needs
+
+same-length-6 : tie.Need-same-length-6
+same-length-6 c = search needs
+
+same-length-7 : tie.Need-same-length-7
+same-length-7 c = search needs
+
+returns : tie.Need-returns
+returns c =
+    let at-register-labels = c .before .before .before .before in
+    let at-mark-after = at-register-labels .before .before .before in
+    let at-mark-after-arg = at-mark-after .before .before .before .before in
+    let at-went-on = at-mark-after-arg .before in
+    let at-ram = at-went-on .before .before .before .before in
+    let at-unique = at-ram .before .before .before .before in
+    let at-run-from = at-unique .before in
+    let at-unless = at-run-from .before in
+    let at-run-from-arg = at-unless .before .before .before .before in
+    let at-leaks-within = at-run-from-arg .before in
+    let at-slice-known7 = at-leaks-within .before .before .before .before in
+    let at-slice-known3 = at-slice-known7 .before .before .before .before in
+    let at-slice-known2 = at-slice-known3 .before in
+    let at-slice-known = at-slice-known2 .before in
+    let at-shared-slice-known = at-slice-known .before in
+    let entry = at-shared-slice-known .before in
+    let pre = entry .pre in
+    turned _ (programOf (entry .args .settings) _) _ _ _ _ _ _ (λ j. at-shared-slice-known .shared-slice-known .given j .fits)
+    (of-bytes _ _ _ (λ j. at-slice-known .slice-known .given j .fits) (λ j. at-slice-known2 .slice-known2 .given j .fits)
+    (λ j. at-slice-known3 .slice-known3 .given j .fits)) (pre .0) (pre .2) (pre .3) (pre .4)
+    _ (at-leaks-within .leaks-within .ensures) _ (at-unless .unless .ensures) _ _ _ (at-run-from .run-from .ensures)
+    _ (at-went-on .went-on .ensures)
+    _ (at-mark-after .mark-after .ensures) _ (c .answer .ensures)
+
+pub step-at-spec : {M : Type 1} → statement M
+step-at-spec =
+    tie.close
+    (tie.spec
+    leaks-within-requires
+    unless-requires
+    run-from-requires
+    went-on-requires
+    mark-after-requires
+    answer-requires
+    same-length
+    same-length-2
+    same-length-3
+    same-length-4
+    same-length-5
+    same-length-6
+    same-length-7
+    returns)

@@ -1,0 +1,47 @@
+-- The turns of a run, and what the code relies on in them.
+use Prim.Native.Nat.{ℕ, _%_, _^_, _<_}
+use mathlib.Core.Bool.{Bool, true, false, cond, not, _&&_}
+use mathlib.Core.List.{List}
+use mathlib.Core.Path.{_≡_}
+use lib.Dec.{eqb, ltb}
+use lib.ListN.{length, getD}
+use Rattle.operation.specs.declared.report.Report.{Report}
+use Rattle.operation.specs.Layout.{operationCount, opcodeAt}
+use Rattle.operation.specs.Rules.{accesses}
+use Rattle.machine.specs.Memory.{Memory, lengthsOf}
+use Rattle.machine.specs.Effect.{Operation, operationAt}
+use Rattle.machine.specs.Calls.{unlabelled}
+use Rattle.machine.specs.Conditions.{destinationBytes}
+use Rattle.memory.specs.Placed.{Placed}
+use Rattle.plan.specs.Valid.{Valid}
+use Rattle.taint.specs.Taint.{Readable}
+
+-- A labelled run has a label for each byte, a plain run none.
+pub record Fitting (labelled : Bool) (labels m : Memory) : Type 0 where
+  pub lengths : labelled ≡ true → lengthsOf labels ≡ lengthsOf m
+  pub none : labelled ≡ false → labels ≡ unlabelled
+
+-- The budget of a turn: one operation of a labelled run, all that is left of a plain one.
+unfoldable pub turnOf : (labelled : Bool) → (left : ℕ) → ℕ
+turnOf labelled left = cond (labelled && ltb 0 left) 1 left
+
+-- LEAK, where nothing was executed.
+unfoldable pub leakReport : Report → Report
+leakReport done = record { ending = 31; index = done .index; executed = done .executed; logged = done .logged; value = 0 }
+
+-- A labelled operation was executed and did not exit.
+unfoldable pub wentOn : (labelled : Bool) → (executed ending : ℕ) → Bool
+wentOn labelled executed ending = labelled && (not (eqb executed 0) && not (eqb ending 1))
+
+-- The pointer of LOAD and STORE, by the log word at k; 0 for all others.
+unfoldable pub pointerLogged : Operation → (log : List ℕ) → (k : ℕ) → ℕ
+pointerLogged op log k = cond (accesses (op .opcode)) (getD log k 0 % 2 ^ 32) 0
+
+-- An operation that went on, and wrote its log word at k.
+pub record Markable (labels : Memory) (list log : List ℕ) (i k : ℕ) : Type 0 where
+  pub valid : Valid (lengthsOf labels) list
+  pub index : i < operationCount list
+  pub logged : accesses (opcodeAt list i) ≡ true → k < length log
+  pub placed : Placed labels (destinationBytes (operationAt list i) (pointerLogged (operationAt list i) log k))
+  pub readable : (destinationBytes (operationAt list i) (pointerLogged (operationAt list i) log k) .space ≡ 0 → ⊥)
+      → Readable labels list i (pointerLogged (operationAt list i) log k)
