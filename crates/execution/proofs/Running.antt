@@ -65,7 +65,7 @@ module _ (log₀ log : List ℕ) (k w : ℕ) (h : Log log₀ log k) where
 -- ---- one operation
 
 -- the position after an operation that goes on, or exits, with its log word pushed
-pub advanced-is : (log₀ : List ℕ) (i k executed next w : ℕ) (log : List ℕ) → Log log₀ log k → (due : Bool) → due && leb (length log) k ≡ false
+advanced-is : (log₀ : List ℕ) (i k executed next w : ℕ) (log : List ℕ) → Log log₀ log k → (due : Bool) → due && leb (length log) k ≡ false
     → advanced (position i k executed log) next (cond due (w ∷ []) []) ≡ position next (cond due (k + 1) k) (executed + 1) (cond due (set log k w) log)
 unfolding advanced position
 advanced-is log₀ i k executed next w log h due e = rw (pushed-words log₀ log k w h due e, room due e, add-one executed) refl
@@ -89,7 +89,7 @@ unfolding run stepped continued
 run-end program zero at labels m e = rw e refl
 run-end program (suc fuel) at labels m e = rw e refl
 
-pub run-budget : (program : Program) (fuel : ℕ) (at : Position) (labels m : Memory) → fuel ≡ 0 → ltb (at .index) (operationCount (program .list)) ≡ true
+run-budget : (program : Program) (fuel : ℕ) (at : Position) (labels m : Memory) → fuel ≡ 0 → ltb (at .index) (operationCount (program .list)) ≡ true
     → run program fuel at labels m ≡ ended 2 0 at labels m
 unfolding run
 run-budget program fuel at labels m z e = rw (z, e) refl

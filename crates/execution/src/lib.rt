@@ -1,6 +1,6 @@
-// The plain run: plan, then apply.
+// The plain loop: plan, then apply.
 ghost use mathlib.Core.Path.{_≡_};
-ghost use mathlib.Core.Bool.{true, false, cond};
+ghost use mathlib.Core.Bool.{true, cond};
 ghost use Prim.Native.Nat.{_+_, _≤_, _<_};
 ghost use lib.ListN.{length, set};
 ghost use Rattle.operation.specs.Layout.{operationCount};

@@ -8,7 +8,7 @@ ghost use lib.ListN.{length, set};
 ghost use lib.Seq.{sets};
 ghost use Rattle.word.specs.Word.{part, valueOf, bytesOf};
 ghost use Rattle.arithmetic.specs.Result.{result};
-ghost use Rattle.exports_values.specs.Answers.{verdictWords, shownLength, placeWords};
+ghost use Rattle.exports_values.specs.Answers.{verdictWords, placeWords};
 ghost use Rattle.machine.specs.Memory.{spaces};
 ghost use Rattle.machine.specs.Calls.{plainRun, plainStep, labelledRun, labelledStep};
 ghost use Rattle.exports_runs.specs.Buffers.{roomFault, settingsOf, plainBuffers, labelledBuffers, after};

@@ -1,11 +1,11 @@
 -- One labelled operation: the plain one, and the labels of what it wrote.
-use Prim.Native.Nat.{ℕ, zero, suc, _+_, _*_, _-_, _%_, _^_, _≤_, _<_}
+use Prim.Native.Nat.{ℕ, _+_, _*_, _-_, _%_, _^_, _≤_, _<_}
 use native.Mathlib.Nat.{add-comm, add-mul-mod-self-right, mod-eq-of-lt}
 use native.Mathlib.Omega.{arith}
 use mathlib.Core.Path.{_≡_, refl, sym, ap, subst, _∙_}
-use mathlib.Core.Bool.{Bool, true, false, cond, not, _&&_, _||_}
+use mathlib.Core.Bool.{Bool, true, false, cond, _&&_, _||_}
 use mathlib.Core.List.{List, [], _∷_, _++_, append-assoc}
-use borrow.Author.Tests.{eqb-true, eqb-false, ltb-true, ltb-false, lt-ltb, le-ltb, leb-true, leb-false, eq-eqb, ne-eqb, not-false}
+use borrow.Author.Tests.{eqb-true, leb-false}
 use lib.Dec.{eqb, leb, ltb}
 use lib.ListN.{length, getD, take, drop, replicate, length-append}
 use lib.Seq.{length-take-le, getD-append-seam}
@@ -16,12 +16,12 @@ use Rattle.arithmetic.specs.Operands.{among}
 use Rattle.operation.specs.declared.layout.Lengths.{Lengths}
 use Rattle.operation.specs.declared.layout.Varnode.{Varnode}
 use Rattle.operation.specs.declared.report.Report.{Report}
-use Rattle.operation.specs.Layout.{operationCount, opcodeAt, varnodeAt}
+use Rattle.operation.specs.Layout.{operationCount}
 use Rattle.operation.specs.Rules.{accesses, branches, namesSpace}
 use Rattle.machine.specs.Program.{Program, bigEndian}
 use Rattle.machine.specs.Memory.{Memory, OfBytes, lengthsOf, spaceOf, written, valueAt}
 use Rattle.machine.specs.Effect.{Operation, operationAt, absent, pointed}
-use Rattle.machine.specs.Run.{Position, Ended, Stepped, logWord, advanced, ended, stepped, continued, run}
+use Rattle.machine.specs.Run.{Position, logWord, advanced, ended, continued, run}
 use Rattle.machine.specs.Calls.{Outcome, unlabelled, logAfter, outcomeOf, plainOutcome, labelledOutcome}
 use Rattle.machine.specs.Conditions.{hasSecret, leaks, pastItsSpace, outOfBounds, dividesByZero, writesLog, lowPart, exits, destinationBytes, becomesSecret, labelsAfter, valueWritten, Words}
 use Rattle.machine.proofs.Conditions.{Formed, formed, few-operations, when, absent-written, constant-public}
@@ -29,15 +29,14 @@ use Rattle.machine.proofs.Limits.{log-length}
 use Rattle.memory.specs.Placed.{Placed}
 use Rattle.plan.specs.declared.Plan.{Plan}
 use Rattle.plan.specs.Valid.{Valid}
-use Rattle.plan.specs.Plans.{unwritten, stopPlan, lowDue, exitPlan, nextPlan, planned}
+use Rattle.plan.specs.Plans.{unwritten, lowDue, exitPlan, nextPlan, planned}
 use Rattle.plan.proofs.Bounds.{loaded-within, destination-placed, pointer-small}
 use Rattle.plan.proofs.Opcodes.{no-access}
 use Rattle.plan.proofs.Places.{space-length, movable, branching}
 use Rattle.plan.proofs.Steps.{wordsOf, carried, step-leak, step-carried, step-plain}
 use Rattle.execution.specs.Loops.{position}
 use Rattle.execution.proofs.Running.{room-is, run-end}
-use Rattle.taint.specs.Taint.{Readable}
-use Rattle.labelled.specs.Turns.{Fitting, leakReport, wentOn, pointerLogged, Markable}
+use Rattle.labelled.specs.Turns.{leakReport, pointerLogged, Markable}
 
 -- ---- what is marked
 

@@ -4,10 +4,9 @@ use native.Mathlib.Omega.{arith}
 use mathlib.Core.Path.{_≡_, refl, sym, ap, subst, _∙_}
 use mathlib.Core.Bool.{Bool, true, false, cond, not, _&&_}
 use mathlib.Core.List.{List}
-use borrow.Author.Tests.{eqb-false, ltb-true, not-true, ne-eqb}
+use borrow.Author.Tests.{ltb-true, ne-eqb}
 use lib.Dec.{eqb, ltb}
 use lib.ListN.{length}
-use Rattle.integer.proofs.Booleans.{both}
 use Rattle.operation.specs.declared.layout.Lengths.{Lengths}
 use Rattle.operation.specs.declared.report.Report.{Report}
 use Rattle.operation.specs.Layout.{operationCount}
@@ -45,9 +44,6 @@ module _ (labelled : Bool) (program : Program) (i k most : ℕ) (log : List ℕ)
     labelledTurn : (t : labelled ≡ true) → leak ≡ false → Done program i k log labels m words bytes v place (fit .lengths t) done m₁ log₁ most → Turn
 
   module _ (t : labelled ≡ true) where
-    abbrev Did : ℕ → Type 0
-    Did n = Done program i k log labels m words bytes v place (fit .lengths t) done m₁ log₁ n
-
     plainly : (n : ℕ) → allowed ≡ n → plainOutcome done m₁ log₁ ≡ outcomeOf log (run program n (position i k 0 log) unlabelled m)
     plainly n e = plain ∙ ap (λ (b : ℕ). outcomeOf log (run program b (position i k 0 log) unlabelled m)) e
 

@@ -5,7 +5,7 @@ use native.Mathlib.Omega.{arith}
 use mathlib.Core.Path.{_≡_, refl, sym, ap, subst, _∙_}
 use mathlib.Core.Bool.{Bool, true, false, cond, _&&_}
 use mathlib.Core.List.{List, []}
-use borrow.Author.Tests.{eqb-true, eqb-false, ltb-true, ltb-false, lt-ltb}
+use borrow.Author.Tests.{eqb-true, eqb-false, ltb-true, ltb-false}
 use lib.Dec.{eqb, ltb}
 use lib.ListN.{length}
 use Rattle.integer.proofs.Booleans.{both}
@@ -14,8 +14,8 @@ use Rattle.operation.specs.declared.report.Report.{Report}
 use Rattle.operation.specs.Layout.{operationCount}
 use Rattle.machine.specs.Program.{Program}
 use Rattle.machine.specs.Memory.{Memory, lengthsOf}
-use Rattle.machine.specs.Run.{Position, Ended, ended, run}
-use Rattle.machine.specs.Calls.{Outcome, unlabelled, logAfter, outcomeOf, labelledOutcome}
+use Rattle.machine.specs.Run.{Ended, run}
+use Rattle.machine.specs.Calls.{Outcome, logAfter, outcomeOf, labelledOutcome}
 use Rattle.machine.proofs.Budget.{later, laterEnded, run-index, run-later}
 use Rattle.machine.proofs.Limits.{run-counts}
 use Rattle.machine.proofs.Resume.{no-labels}

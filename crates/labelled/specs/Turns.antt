@@ -37,7 +37,7 @@ wentOn labelled executed ending = labelled && (not (eqb executed 0) && not (eqb 
 unfoldable pub pointerLogged : Operation → (log : List ℕ) → (k : ℕ) → ℕ
 pointerLogged op log k = cond (accesses (op .opcode)) (getD log k 0 % 2 ^ 32) 0
 
--- An operation that went on, and wrote its log word at k.
+-- An operation that went on, and wrote its log word, if one was due, at k. Labels are read only where something is written to.
 pub record Markable (labels : Memory) (list log : List ℕ) (i k : ℕ) : Type 0 where
   pub valid : Valid (lengthsOf labels) list
   pub index : i < operationCount list

@@ -82,7 +82,7 @@ pub fn run_any(
     }
 }
 
-// One operation, at any index up to n and from any log word on.
+// One operation, at any index up to n and from any log word on. It is for a speculation window, and nothing calls it yet.
 pub fn one_operation(
     labelled: bool,
     settings: Settings,

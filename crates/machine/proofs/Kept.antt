@@ -17,7 +17,7 @@ use Rattle.machine.specs.Program.{Program}
 use Rattle.machine.specs.Memory.{Memory, lengthsOf, spaceOf, withSpace, written}
 use Rattle.machine.specs.Effect.{Operation, Kind, operationAt, sources, target, secret, labelsWritten}
 use Rattle.machine.specs.Run.{Stop, Decision, Position, Ended, Stepped, logging, goTo, access, checked, decided, advanced, ended, carriedOut, performedAs, performed, stepped, continued, run}
-use Rattle.machine.specs.Calls.{allLabels, labelsInRange, starting, unlabelled}
+use Rattle.machine.specs.Calls.{allLabels, labelsInRange, starting}
 use Rattle.machine.proofs.Cases.{either}
 
 -- ---- writing keeps lengths, and labels of 0 or 1
@@ -181,7 +181,3 @@ unfolding starting
 started-kept program start budget log labels m =
     run-kept (length log) (lengthsOf m) labels program budget (starting start (length log)) labels m
     (record { log = omega arith; memory = refl; lengths = refl; values = λ q. q })
-
-pub unlabelled-in-range : labelsInRange unlabelled ≡ true
-unfolding labelsInRange allLabels unlabelled
-unlabelled-in-range = refl

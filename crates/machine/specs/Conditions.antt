@@ -1,6 +1,7 @@
 -- The exact conditions: one operation of a well-formed list told a second time, over opcode numbers, varnodes, labels and values, as
--- the sentences of paper 01 have it. The definitions of Effect and Run must meet it; a wrong entry in one of their tables does not. The
--- code is held to these: what it plans, looks at and marks is told in their words.
+-- the sentences of paper 01 have it. The definitions of Effect and Run must meet it; a wrong entry in one of their tables does not. Both
+-- tellings share memory, arithmetic and the bytes at a pointer (`pointed`). The code is held to these: what it plans, looks at and
+-- marks is told in their words.
 use Prim.Native.Nat.{ℕ, suc, _+_, _*_, _-_, _%_, _^_, _<_}
 use mathlib.Core.Bool.{Bool, false, cond, not, _&&_, _||_}
 use mathlib.Core.List.{List, [], _∷_}
@@ -103,6 +104,7 @@ unfoldable pub valueMoved : Program → Memory → Operation → (b : ℕ) → �
 valueMoved program m op b =
     valueAt (program .settings) m (cond (eqb (op .opcode) 2) (pointed op b (op .output .size)) (op .input2))
 
+-- The value written: moved by LOAD and STORE, else computed.
 unfoldable pub valueWritten : Program → Memory → Operation → (a b : ℕ) → ℕ
 valueWritten program m op a b = cond (among (op .opcode) (2 ∷ 3 ∷ [])) (valueMoved program m op b) (valueComputed op a b)
 

@@ -61,7 +61,7 @@ kindOf opcode =
 
 -- ---- what must be public: 'LEAK: a secret byte in ..'
 
--- The varnodes that must be public, none, one or more.
+-- The varnodes that must be public.
 unfoldable pub guarded : Kind → Operation → List Varnode
 -- the pointer of LOAD or STORE,
 guarded load op = op .input1 ∷ []

@@ -14,5 +14,6 @@ pub record Program : Type 0 where
   pub settings : Settings
   pub list : List ℕ
 
+-- The program of a call.
 abbrev pub programOf : Settings → List ℕ → Program
 programOf settings list = record { settings = settings; list = list }

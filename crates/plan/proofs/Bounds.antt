@@ -1,16 +1,14 @@
 -- What a plan keeps within: its next index, its target and its log word.
-use Prim.Native.Nat.{ℕ, suc, _+_, _%_, _^_, _≤_, _<_}
+use Prim.Native.Nat.{ℕ, _+_, _%_, _^_, _≤_, _<_}
 use native.Mathlib.Omega.{arith}
-use mathlib.Core.Path.{_≡_, refl, sym, ap, _∙_}
+use mathlib.Core.Path.{_≡_, refl}
 use mathlib.Core.Bool.{Bool, true, false, cond, not, _&&_, _||_}
-use mathlib.Core.List.{List, [], _∷_}
+use mathlib.Core.List.{[], _∷_}
 use borrow.Author.Tests.{eqb-true, eq-eqb, leb-true, not-false}
 use lib.Dec.{eqb, leb}
 use lib.ListN.{length}
-use Rattle.integer.specs.Operations.{flag}
 use Rattle.integer.proofs.Booleans.{both, neither, flag-lt}
 use Rattle.arithmetic.specs.Operands.{among}
-use Rattle.operation.specs.declared.layout.Settings.{Settings}
 use Rattle.operation.specs.declared.layout.Varnode.{Varnode}
 use Rattle.operation.specs.Layout.{operationCount, varnodeAt}
 use Rattle.operation.specs.Rules.{accesses, branches, lengthOf}
@@ -26,7 +24,8 @@ use Rattle.machine.proofs.Cases.{either}
 use Rattle.memory.specs.Placed.{Placed}
 use Rattle.plan.specs.declared.Plan.{Plan}
 use Rattle.plan.specs.Valid.{Valid}
-use Rattle.plan.specs.Plans.{unwritten, lowDue, exitPlan, nextPlan, planned, Movable}
+use Rattle.plan.specs.Plans.{unwritten, lowDue, exitPlan, nextPlan, planned}
+use Rattle.plan.proofs.Opcodes.{no-number}
 use Rattle.plan.proofs.Places.{space-length, placed, movable, in-range}
 
 -- what holds in each case of a condition, by what the test says
@@ -37,9 +36,6 @@ when-true P false a b h q = q refl
 pub nowhere : (m : Memory) → Placed m absent
 unfolding absent
 nowhere m = record { size = omega arith; known = omega arith; nowhere = λ z. refl; within = λ l. absurd (let y : ⊥ = omega arith in y) }
-
-no-number : {A : Type 0} → false ≡ true → A
-no-number f = absurd (let z : _≡_ {A = ℕ} 0 1 = cc in omega arith)
 
 -- an operation that branches is a branch
 taken-branches : (n : ℕ) (t : Bool) → among n (4 ∷ 7 ∷ []) || (eqb n 5 && t) ≡ true → branches n ≡ true

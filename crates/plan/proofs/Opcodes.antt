@@ -35,7 +35,7 @@ divides-among n =
 
 -- ---- the opcodes of a class, one by one
 
-no-number : {A : Type 0} → false ≡ true → A
+pub no-number : {A : Type 0} → false ≡ true → A
 no-number f = absurd (let z : _≡_ {A = ℕ} 0 1 = cc in omega arith)
 
 module _ (P : Operation → Type 0) (op : Operation) where

@@ -3,7 +3,6 @@ use Prim.Native.Nat.{ℕ, suc, _+_, _%_, _^_, _≤_, _<_}
 use native.Mathlib.Omega.{arith}
 use mathlib.Core.Path.{_≡_, refl, sym, ap, _∙_}
 use mathlib.Core.Bool.{Bool, true, false, cond, not, _&&_}
-use mathlib.Core.List.{[], _∷_}
 use native.Mathlib.Numerals.{add-one}
 use borrow.Author.Tests.{eqb-false, eq-eqb, ne-eqb, leb-true, not-true, not-false}
 use lib.Dec.{eqb, leb}
@@ -12,7 +11,7 @@ use Rattle.integer.specs.Operations.{flag}
 use Rattle.arithmetic.specs.Operands.{among, divides, Operands}
 use Rattle.arithmetic.specs.Result.{lookup, result}
 use Rattle.operation.specs.declared.layout.Varnode.{Varnode}
-use Rattle.operation.specs.Rules.{accesses, branches, jumps, lengthOf}
+use Rattle.operation.specs.Rules.{accesses, jumps, lengthOf}
 use Rattle.machine.specs.Program.{Program}
 use Rattle.machine.specs.Memory.{Memory, lengthsOf, spaceOf, valueAt}
 use Rattle.machine.specs.Effect.{Operation, absent, pointed}
@@ -22,7 +21,7 @@ use Rattle.memory.specs.Placed.{Placed}
 use Rattle.plan.specs.declared.Plan.{Plan}
 use Rattle.plan.specs.Plans.{unwritten, stopPlan, lowDue, exitPlan, nextPlan, planned, movePlan, branchPlan, dataPlan, Movable, Branching, Computable}
 use Rattle.plan.proofs.Places.{space-length}
-use Rattle.plan.proofs.Opcodes.{operation, divides-among, by-access, by-jump, by-branch, no-access, no-branch, no-jump}
+use Rattle.plan.proofs.Opcodes.{divides-among, by-access, by-jump, by-branch, no-access, no-branch, no-jump}
 
 -- ---- BRANCH, CALL and CBRANCH
 

@@ -5,7 +5,6 @@ use mathlib.Core.Path.{_≡_}
 use mathlib.Core.Bool.{Bool, true, false, cond, not}
 use lib.Dec.{eqb}
 use Rattle.arithmetic.specs.Operands.{divides, Operands}
-use Rattle.operation.specs.declared.layout.Varnode.{Varnode}
 use Rattle.operation.specs.Rules.{accesses, branches, jumps}
 use Rattle.machine.specs.Program.{Program}
 use Rattle.machine.specs.Memory.{Memory}

@@ -2,9 +2,7 @@
 ghost use mathlib.Core.Path.{_≡_};
 ghost use Prim.Native.Nat.{_+_, _*_, _≤_, _<_};
 ghost use mathlib.Core.Bool.{cond};
-ghost use lib.Dec.{eqb};
 ghost use lib.ListN.{length};
-ghost use Rattle.arithmetic.specs.Result.{result};
 ghost use Rattle.operation.specs.Layout.{wordsPerOperation, operationCount};
 ghost use Rattle.machine.specs.Program.{programOf};
 ghost use Rattle.machine.specs.Memory.{spaces, lengthsOf, valueAt};
@@ -39,6 +37,7 @@ pub struct Plan {
     pub value: u64,
 }
 
+// A plan that writes nothing to memory.
 fn unwritten(stop: u64, next: usize, due: bool, low: u64, value: u64) -> Plan
     ensures { λ r. ⌜ r ≡ unwritten stop next due low value ⌝ }
 {
@@ -57,6 +56,7 @@ fn unwritten(stop: u64, next: usize, due: bool, low: u64, value: u64) -> Plan
     }
 }
 
+// A plan that writes a value and goes on at the next operation.
 fn writes(i: usize, due: bool, low: u64, target: Varnode, value: u64) -> Plan
     requires { ⌜ i < 4096 ⌝ }
     ensures { λ r. ⌜ r ≡ record { stop = 0; next = i + 1; due = due; low = low; target = target; value = value } ⌝ }
@@ -111,6 +111,7 @@ fn data_at(list: &[u64], i: usize, a: u64, b: u64) -> Plan
     writes(i, false, 0, output, x)
 }
 
+// One of two varnodes.
 fn choose(first: bool, a: Varnode, b: Varnode) -> Varnode
     ensures { λ r. ⌜ r ≡ cond first a b ⌝ }
 {

@@ -1,5 +1,4 @@
 // The runs with their refusals: crates/interpreter has them as public calls.
-ghost use mathlib.Core.Path.{_≡_};
 ghost use Rattle.machine.specs.Memory.{spaces};
 ghost use Rattle.runs.specs.Promises.{RunPromise, LabelledRunPromise};
 use labelled::run_any;

@@ -1,10 +1,9 @@
 -- What the code looks at in the labels is what the exact conditions say.
 use Prim.Native.Nat.{ℕ, _≤_, _<_}
 use native.Mathlib.Omega.{arith}
-use mathlib.Core.Path.{_≡_, refl, sym, ap, _∙_}
+use mathlib.Core.Path.{_≡_, refl, sym}
 use mathlib.Core.Bool.{Bool, true, false, cond, _&&_, _||_}
 use mathlib.Core.List.{List}
-use borrow.Author.Tests.{eq-eqb, ne-eqb}
 use lib.Dec.{eqb}
 use Rattle.integer.proofs.Booleans.{or-false}
 use Rattle.arithmetic.specs.Operands.{among, divides}
@@ -12,7 +11,7 @@ use Rattle.operation.specs.declared.layout.Varnode.{Varnode}
 use Rattle.operation.specs.Layout.{operationCount, opcodeAt, varnodeAt}
 use Rattle.operation.specs.Rules.{accesses, branches, jumps}
 use Rattle.machine.specs.Memory.{Memory, lengthsOf}
-use Rattle.machine.specs.Effect.{Operation, operationAt, absent, pointed}
+use Rattle.machine.specs.Effect.{Operation, absent, pointed}
 use Rattle.machine.specs.Conditions.{hasSecret, leaks, destinationBytes, becomesSecret}
 use Rattle.machine.proofs.Conditions.{when, absent-public}
 use Rattle.memory.specs.Placed.{Placed}

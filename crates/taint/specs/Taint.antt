@@ -1,4 +1,4 @@
--- What the code relies on where it looks at the labels of an operation; b is the value of input1.
+-- What the code relies on where it looks at the labels of an operation.
 use Prim.Native.Nat.{ℕ, _<_}
 use mathlib.Core.List.{List}
 use mathlib.Core.Path.{_≡_}
@@ -12,12 +12,12 @@ use Rattle.machine.specs.Conditions.{hasSecret}
 use Rattle.memory.specs.Placed.{Placed}
 use Rattle.plan.specs.Valid.{Valid}
 
--- An operation of a well-formed list that reads its inputs. A LOAD is within its space, and did not leak: the varnodes that it reads
--- beside the bytes loaded are public.
-pub record Readable (labels : Memory) (list : List ℕ) (i b : ℕ) : Type 0 where
+-- An operation of a well-formed list that reads its inputs. A LOAD's bytes at `pointer` are within its space, and it did not leak: the
+-- varnodes that it reads beside them are public. No other operation looks at `pointer`.
+pub record Readable (labels : Memory) (list : List ℕ) (i pointer : ℕ) : Type 0 where
   pub valid : Valid (lengthsOf labels) list
   pub index : i < operationCount list
   pub noBranch : branches (opcodeAt list i) ≡ false
-  pub loaded : eqb (opcodeAt list i) 2 ≡ true → Placed labels (pointed (operationAt list i) b (varnodeAt list i 0 .size))
+  pub loaded : eqb (opcodeAt list i) 2 ≡ true → Placed labels (pointed (operationAt list i) pointer (varnodeAt list i 0 .size))
   pub public0 : eqb (opcodeAt list i) 2 ≡ true → hasSecret labels (varnodeAt list i 1) ≡ false
   pub public1 : eqb (opcodeAt list i) 2 ≡ true → hasSecret labels (varnodeAt list i 2) ≡ false

@@ -18,7 +18,7 @@ use operation::layout::varnode_at;
 use operation::rules::accesses;
 use operation::rules::jumps;
 
-// LEAK: a byte that must be public is secret. At most input0 and input1 must be.
+// LEAK: a byte that must be public is secret. It may be one of input0 or of input1.
 pub fn leaks_at(list: &[u64], unique: &[u8], register: &[u8], ram: &[u8], i: usize) -> bool
     requires { ⌜ Valid (lengthsOf (spaces (now unique) (now register) (now ram))) (now list) × (i < operationCount (now list)) ⌝ }
     ensures { λ r. ⌜ r ≡ leaks (spaces (now (unique .entry)) (now (register .entry)) (now (ram .entry))) (operationAt (now (list .entry)) i) ⌝ }
@@ -72,7 +72,7 @@ pub fn target_at(list: &[u64], i: usize, pointer: u64) -> Varnode
     varnode_at(list, i, 0)
 }
 
-// What operation i writes becomes secret. A LOAD's own varnodes are public by now, so only the bytes loaded are looked at.
+// Whether what operation i writes becomes secret. A LOAD's own varnodes are public by now, so only the bytes loaded are looked at.
 pub fn becomes_secret(
     list: &[u64],
     unique: &[u8],

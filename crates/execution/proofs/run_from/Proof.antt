@@ -8,7 +8,16 @@ use Rattle.machine.specs.Program.{programOf}
 use Rattle.machine.specs.Memory.{spaces, lengthsOf}
 use Rattle.plan.proofs.Places.{of-bytes}
 use Rattle.execution.proofs.Running.{Going, begun, at-end, at-budget, may-plan, at-stop, at-full, may-log, may-push, may-write, logs-kept, at-exit, at-next}
+use Rattle.validation.proofs.operation_count.Reads as operation-count-reads
+use Rattle.execution.proofs.report.Reads as report-reads
+use Rattle.plan.proofs.plan_at.Reads as plan-at-reads
+use Rattle.integer.proofs.boolean.both.Reads as both-reads
+use Rattle.execution.proofs.log_word.Reads as log-word-reads
+use Rattle.execution.proofs.push.Reads as push-reads
+use Rattle.memory.proofs.varnode.write.Reads as write-reads
 use borrow.Author.Needs.{needs}
+use Rattle.execution.proofs.run_from.Reads as reads
+use Rattle.execution.proofs.run_from.Lts as lts
 use Rattle.execution.proofs.run_from.Statement.{statement}
 use Rattle.execution.proofs.run_from.Tie as tie
 
@@ -20,6 +29,48 @@ Inv-loop settings list unique₀ register₀ ram₀ log₀ start from budget cou
 
 abbrev μ-loop : tie.MeasureT-loop
 μ-loop settings list unique₀ register₀ ram₀ log₀ start from budget count i₀ k₀ executed₀ unique register ram log i k executed = budget - executed
+
+abbrev calls : lts.Claims
+calls = (
+  operation-count-reads.Asked,
+  operation-count-reads.Learnt,
+  report-reads.Asked,
+  report-reads.Learnt,
+  plan-at-reads.Asked,
+  plan-at-reads.Learnt,
+  both-reads.Asked,
+  both-reads.Learnt,
+  log-word-reads.Asked,
+  log-word-reads.Learnt,
+  push-reads.Asked,
+  push-reads.Learnt,
+  write-reads.Asked,
+  write-reads.Learnt,
+)
+
+-- ---- places: from the log word to what was due, to the plan, to the tests before it, to the loop, to the start
+
+abbrev due-of : lts.After-push calls reads.Pre reads.Post Inv-loop μ-loop → lts.Else4 calls reads.Pre reads.Post Inv-loop μ-loop
+due-of c = c .before .before .before
+
+abbrev plan-of : lts.Else4 calls reads.Pre reads.Post Inv-loop μ-loop → lts.After-plan-at calls reads.Pre reads.Post Inv-loop μ-loop
+plan-of c = c .before .before .before .before
+
+abbrev left-of : lts.After-plan-at calls reads.Pre reads.Post Inv-loop μ-loop → lts.Else2 calls reads.Pre reads.Post Inv-loop μ-loop
+left-of c = c .before .before .before .before
+
+abbrev more-of : lts.After-plan-at calls reads.Pre reads.Post Inv-loop μ-loop → lts.Else1 calls reads.Pre reads.Post Inv-loop μ-loop
+more-of c = left-of c .before
+
+abbrev loop-of : lts.After-plan-at calls reads.Pre reads.Post Inv-loop μ-loop → lts.At-loop calls reads.Pre reads.Post Inv-loop μ-loop
+loop-of c = more-of c .before
+
+abbrev entry-of : lts.At-loop calls reads.Pre reads.Post Inv-loop μ-loop → lts.Start calls reads.Pre reads.Post Inv-loop μ-loop
+entry-of c =
+    let at-slice-known2 = c .before .before .before .before in
+    at-slice-known2 .before .before .before
+
+-- ---- the needs
 
 operation-count-requires : tie.Need-operation-count-requires Inv-loop μ-loop
 operation-count-requires c κs = search needs
@@ -115,43 +166,32 @@ report-requires-3 c κs = search needs
 same-length-9 : tie.Need-same-length-9 Inv-loop μ-loop
 unfolding lengthsOf
 same-length-9 c =
-    let at-plan-at-arg3 = c .before .before .before .before in
-    let past1 = at-plan-at-arg3 .before .before .before .before in
-    let at-loop = past1 .before in
-    ap (λ (l : Lengths). l .unique) (at-loop .loop .inv .1 .lengths)
+    let at-plan = c .before .before .before in
+    ap (λ (l : Lengths). l .unique) (loop-of at-plan .loop .inv .1 .lengths)
 
 same-length-10 : tie.Need-same-length-10 Inv-loop μ-loop
 unfolding lengthsOf
 same-length-10 c =
-    let at-plan-at-arg3 = c .before .before .before .before in
-    let past1 = at-plan-at-arg3 .before .before .before .before in
-    let at-loop = past1 .before in
-    ap (λ (l : Lengths). l .register) (at-loop .loop .inv .1 .lengths)
+    let at-plan = c .before .before .before in
+    ap (λ (l : Lengths). l .register) (loop-of at-plan .loop .inv .1 .lengths)
 
 same-length-11 : tie.Need-same-length-11 Inv-loop μ-loop
 unfolding lengthsOf
 same-length-11 c =
-    let at-plan-at-arg3 = c .before .before .before .before in
-    let past1 = at-plan-at-arg3 .before .before .before .before in
-    let at-loop = past1 .before in
-    ap (λ (l : Lengths). l .ram) (at-loop .loop .inv .1 .lengths)
+    let at-plan = c .before .before .before in
+    ap (λ (l : Lengths). l .ram) (loop-of at-plan .loop .inv .1 .lengths)
 
 same-length-12 : tie.Need-same-length-12 Inv-loop μ-loop
 same-length-12 c =
-    let at-plan-at-arg3 = c .before .before .before .before in
-    let past1 = at-plan-at-arg3 .before .before .before .before in
-    let at-loop = past1 .before in
-    at-loop .loop .inv .1 .logs .long
+    let at-plan = c .before .before .before in
+    loop-of at-plan .loop .inv .1 .logs .long
 
 returns-3 : tie.Need-returns-3 Inv-loop μ-loop
 returns-3 c =
-    let within3 = c .before in
-    let at-plan-at = within3 .before .before in
-    let past2 = at-plan-at .before .before .before .before in
-    let past1 = past2 .before in
-    let at-loop = past1 .before in
+    let at-plan = c .before .before .before in
     rw (c .report3 .ensures)
-    (at-stop _ _ _ _ _ _ _ _ _ _ _ (at-loop .loop .inv .1) (λ e. past1 .if1 .left (e ∙ sym (at-loop .loop .inv .0))) (past2 .if2 .left) _ (at-plan-at .plan-at .ensures) (within3 .if3 .taken))
+    (at-stop _ _ _ _ _ _ _ _ _ _ _ (loop-of at-plan .loop .inv .1) (λ e. more-of at-plan .if1 .left (e ∙ sym (loop-of at-plan .loop .inv .0)))
+    (left-of at-plan .if2 .left) _ (at-plan .plan-at .ensures) (c .before .if3 .taken))
 
 both-requires : tie.Need-both-requires Inv-loop μ-loop
 both-requires c κs = search needs
@@ -163,77 +203,59 @@ same-length-13 : tie.Need-same-length-13 Inv-loop μ-loop
 unfolding lengthsOf
 same-length-13 c =
     let at-struct-known = c .before .before .before .before in
-    let at-plan-at-arg = at-struct-known .before .before .before .before in
-    let at-loop = at-plan-at-arg .before .before .before in
-    ap (λ (l : Lengths). l .unique) (at-loop .loop .inv .1 .lengths)
+    let at-plan = at-struct-known .before in
+    ap (λ (l : Lengths). l .unique) (loop-of at-plan .loop .inv .1 .lengths)
 
 same-length-14 : tie.Need-same-length-14 Inv-loop μ-loop
 unfolding lengthsOf
 same-length-14 c =
     let at-struct-known = c .before .before .before .before in
-    let at-plan-at-arg = at-struct-known .before .before .before .before in
-    let at-loop = at-plan-at-arg .before .before .before in
-    ap (λ (l : Lengths). l .register) (at-loop .loop .inv .1 .lengths)
+    let at-plan = at-struct-known .before in
+    ap (λ (l : Lengths). l .register) (loop-of at-plan .loop .inv .1 .lengths)
 
 same-length-15 : tie.Need-same-length-15 Inv-loop μ-loop
 unfolding lengthsOf
 same-length-15 c =
     let at-struct-known = c .before .before .before .before in
-    let at-plan-at-arg = at-struct-known .before .before .before .before in
-    let at-loop = at-plan-at-arg .before .before .before in
-    ap (λ (l : Lengths). l .ram) (at-loop .loop .inv .1 .lengths)
+    let at-plan = at-struct-known .before in
+    ap (λ (l : Lengths). l .ram) (loop-of at-plan .loop .inv .1 .lengths)
 
 same-length-16 : tie.Need-same-length-16 Inv-loop μ-loop
 same-length-16 c =
     let at-struct-known = c .before .before .before .before in
-    let at-plan-at-arg = at-struct-known .before .before .before .before in
-    let at-loop = at-plan-at-arg .before .before .before in
-    at-loop .loop .inv .1 .logs .long
+    let at-plan = at-struct-known .before in
+    loop-of at-plan .loop .inv .1 .logs .long
 
 returns-4 : tie.Need-returns-4 Inv-loop μ-loop
 returns-4 c =
-    let within4 = c .before in
-    let at-both = within4 .before in
-    let past3 = at-both .before in
-    let at-plan-at = past3 .before .before in
-    let past2 = at-plan-at .before .before .before .before in
-    let past1 = past2 .before in
-    let at-loop = past1 .before in
+    let at-struct-known = c .before .before .before .before in
+    let at-plan = at-struct-known .before in
     rw (c .report4 .ensures)
-    (at-full _ _ _ _ _ _ _ _ _ _ _ (at-loop .loop .inv .1) (λ e. past1 .if1 .left (e ∙ sym (at-loop .loop .inv .0))) (past2 .if2 .left) _ (at-plan-at .plan-at .ensures)
-    (past3 .if3 .left) _ (at-both .both .ensures) (within4 .if4 .taken))
+    (at-full _ _ _ _ _ _ _ _ _ _ _ (loop-of at-plan .loop .inv .1) (λ e. more-of at-plan .if1 .left (e ∙ sym (loop-of at-plan .loop .inv .0)))
+    (left-of at-plan .if2 .left) _ (at-plan .plan-at .ensures)
+    (c .before .before .before .if3 .left) _ (c .before .before .both .ensures) (c .before .if4 .taken))
 
 log-word-requires : tie.Need-log-word-requires Inv-loop μ-loop
 log-word-requires c κs =
-    let at-struct-known = c .before .before .before .before in
-    let at-plan-at = at-struct-known .before in
-    let past2 = at-plan-at .before .before .before .before in
-    let past1 = past2 .before in
-    let at-loop = past1 .before in
-    may-log _ _ _ _ _ _ _ _ _ _ _ (at-loop .loop .inv .1) (λ e. past1 .if1 .left (e ∙ sym (at-loop .loop .inv .0))) (past2 .if2 .left) _ (at-plan-at .plan-at .ensures)
+    let past4 = c .before in
+    let at-plan = plan-of past4 in
+    may-log _ _ _ _ _ _ _ _ _ _ _ (loop-of at-plan .loop .inv .1) (λ e. more-of at-plan .if1 .left (e ∙ sym (loop-of at-plan .loop .inv .0))) (left-of at-plan .if2 .left) _ (at-plan .plan-at .ensures)
 
 push-requires : tie.Need-push-requires Inv-loop μ-loop
 push-requires c κs =
     let past4 = c .before .before in
-    let at-both = past4 .before in
-    let past3 = at-both .before in
-    let at-plan-at = past3 .before .before in
-    let past2 = at-plan-at .before .before .before .before in
-    let past1 = past2 .before in
-    let at-loop = past1 .before in
-    may-push _ _ _ _ _ _ _ _ _ _ _ (at-loop .loop .inv .1) (λ e. past1 .if1 .left (e ∙ sym (at-loop .loop .inv .0))) (past2 .if2 .left) _ (at-plan-at .plan-at .ensures)
-    (past3 .if3 .left) _ (at-both .both .ensures) (past4 .if4 .left)
+    let at-plan = plan-of past4 in
+    may-push _ _ _ _ _ _ _ _ _ _ _ (loop-of at-plan .loop .inv .1) (λ e. more-of at-plan .if1 .left (e ∙ sym (loop-of at-plan .loop .inv .0)))
+    (left-of at-plan .if2 .left) _ (at-plan .plan-at .ensures)
+    (past4 .before .before .if3 .left) _ (past4 .before .both .ensures) (past4 .if4 .left)
 
 add-executed : tie.Need-add-executed Inv-loop μ-loop
 add-executed c =
-    let at-push-arg = c .before .before .before .before in
-    let at-struct-known = at-push-arg .before .before .before .before in
-    let at-plan-at-arg = at-struct-known .before .before .before .before in
-    let at-loop = at-plan-at-arg .before .before .before in
-    let at-slice-known2 = at-loop .before .before .before .before in
-    let entry = at-slice-known2 .before .before .before in
-    let h = at-loop .loop .inv .1 .spent in
-    omega (arith, entry .fits .budget)
+    let at-push = c .before .before in
+    let past4 = due-of at-push in
+    let at-plan = plan-of past4 in
+    let h = loop-of at-plan .loop .inv .1 .spent in
+    omega (arith, entry-of (loop-of at-plan) .fits .budget)
 
 report-requires-5 : tie.Need-report-requires-5 Inv-loop μ-loop
 report-requires-5 c κs = search needs
@@ -242,88 +264,71 @@ same-length-17 : tie.Need-same-length-17 Inv-loop μ-loop
 unfolding lengthsOf
 same-length-17 c =
     let at-log = c .before .before .before .before in
-    let past4 = at-log .before .before .before .before in
-    let at-plan-at = past4 .before .before .before .before in
-    let past2 = at-plan-at .before .before .before .before in
-    let at-loop = past2 .before .before in
-    ap (λ (l : Lengths). l .unique) (at-loop .loop .inv .1 .lengths)
+    let at-push = at-log .before in
+    let past4 = due-of at-push in
+    let at-plan = plan-of past4 in
+    ap (λ (l : Lengths). l .unique) (loop-of at-plan .loop .inv .1 .lengths)
 
 same-length-18 : tie.Need-same-length-18 Inv-loop μ-loop
 unfolding lengthsOf
 same-length-18 c =
     let at-log = c .before .before .before .before in
-    let past4 = at-log .before .before .before .before in
-    let at-plan-at = past4 .before .before .before .before in
-    let past2 = at-plan-at .before .before .before .before in
-    let at-loop = past2 .before .before in
-    ap (λ (l : Lengths). l .register) (at-loop .loop .inv .1 .lengths)
+    let at-push = at-log .before in
+    let past4 = due-of at-push in
+    let at-plan = plan-of past4 in
+    ap (λ (l : Lengths). l .register) (loop-of at-plan .loop .inv .1 .lengths)
 
 same-length-19 : tie.Need-same-length-19 Inv-loop μ-loop
 unfolding lengthsOf
 same-length-19 c =
     let at-log = c .before .before .before .before in
-    let past4 = at-log .before .before .before .before in
-    let at-plan-at = past4 .before .before .before .before in
-    let past2 = at-plan-at .before .before .before .before in
-    let at-loop = past2 .before .before in
-    ap (λ (l : Lengths). l .ram) (at-loop .loop .inv .1 .lengths)
+    let at-push = at-log .before in
+    let past4 = due-of at-push in
+    let at-plan = plan-of past4 in
+    ap (λ (l : Lengths). l .ram) (loop-of at-plan .loop .inv .1 .lengths)
 
 same-length-20 : tie.Need-same-length-20 Inv-loop μ-loop
 same-length-20 c =
     let at-log = c .before .before .before .before in
     let at-push = at-log .before in
-    let at-log-word = at-push .before in
-    let past4 = at-log-word .before .before in
-    let at-both = past4 .before in
-    let past3 = at-both .before in
-    let at-plan-at = past3 .before .before in
-    let past2 = at-plan-at .before .before .before .before in
-    let past1 = past2 .before in
-    let at-loop = past1 .before in
-    logs-kept _ _ _ _ _ _ _ _ _ _ _ (at-loop .loop .inv .1) (λ e. past1 .if1 .left (e ∙ sym (at-loop .loop .inv .0))) (past2 .if2 .left) _ (at-plan-at .plan-at .ensures)
-    (past3 .if3 .left) _ (at-both .both .ensures)
-    (past4 .if4 .left) _ _ _ (at-log-word .log-word .ensures) (at-push .push .ensures .0) (at-push .push .ensures .1) .long
+    let past4 = due-of at-push in
+    let at-plan = plan-of past4 in
+    logs-kept _ _ _ _ _ _ _ _ _ _ _ (loop-of at-plan .loop .inv .1) (λ e. more-of at-plan .if1 .left (e ∙ sym (loop-of at-plan .loop .inv .0)))
+    (left-of at-plan .if2 .left) _ (at-plan .plan-at .ensures)
+    (past4 .before .before .if3 .left) _ (past4 .before .both .ensures)
+    (past4 .if4 .left) _ _ _ (at-push .before .log-word .ensures) (at-push .push .ensures .0) (at-push .push .ensures .1) .long
 
 returns-5 : tie.Need-returns-5 Inv-loop μ-loop
 returns-5 c =
-    let within5 = c .before in
-    let at-push = within5 .before .before .before .before in
-    let at-log-word = at-push .before in
-    let past4 = at-log-word .before .before in
-    let at-both = past4 .before in
-    let past3 = at-both .before in
-    let at-plan-at = past3 .before .before in
-    let past2 = at-plan-at .before .before .before .before in
-    let past1 = past2 .before in
-    let at-loop = past1 .before in
+    let at-log = c .before .before .before .before in
+    let at-push = at-log .before in
+    let past4 = due-of at-push in
+    let at-plan = plan-of past4 in
     rw (c .report5 .ensures)
-    (at-exit _ _ _ _ _ _ _ _ _ _ _ (at-loop .loop .inv .1) (λ e. past1 .if1 .left (e ∙ sym (at-loop .loop .inv .0))) (past2 .if2 .left) _ (at-plan-at .plan-at .ensures)
-    (past3 .if3 .left) _ (at-both .both .ensures)
-    (past4 .if4 .left) _ _ _ (at-log-word .log-word .ensures) (at-push .push .ensures .0) (at-push .push .ensures .1) (within5 .if5 .taken))
+    (at-exit _ _ _ _ _ _ _ _ _ _ _ (loop-of at-plan .loop .inv .1) (λ e. more-of at-plan .if1 .left (e ∙ sym (loop-of at-plan .loop .inv .0)))
+    (left-of at-plan .if2 .left) _ (at-plan .plan-at .ensures)
+    (past4 .before .before .if3 .left) _ (past4 .before .both .ensures)
+    (past4 .if4 .left) _ _ _ (at-push .before .log-word .ensures) (at-push .push .ensures .0) (at-push .push .ensures .1) (c .before .if5 .taken))
 
 write-requires : tie.Need-write-requires Inv-loop μ-loop
 write-requires c κs =
     let past5 = c .before .before .before .before in
     let at-push = past5 .before .before .before .before in
-    let at-both = at-push .before .before .before .before in
-    let at-plan-at = at-both .before .before .before in
-    let past2 = at-plan-at .before .before .before .before in
-    let past1 = past2 .before in
-    let at-loop = past1 .before in
-    may-write _ _ _ _ _ _ _ _ _ _ _ (at-loop .loop .inv .1) (λ e. past1 .if1 .left (e ∙ sym (at-loop .loop .inv .0))) (past2 .if2 .left) _ (at-plan-at .plan-at .ensures)
+    let past4 = due-of at-push in
+    let at-plan = plan-of past4 in
+    may-write _ _ _ _ _ _ _ _ _ _ _ (loop-of at-plan .loop .inv .1) (λ e. more-of at-plan .if1 .left (e ∙ sym (loop-of at-plan .loop .inv .0)))
+    (left-of at-plan .if2 .left) _ (at-plan .plan-at .ensures)
 
 loop-less : tie.Need-loop-less Inv-loop μ-loop
 loop-less c =
     let at-slice-known6 = c .before .before .before .before in
     let at-write-arg2 = at-slice-known6 .before .before .before .before in
     let at-struct-known2 = at-write-arg2 .before .before .before .before in
-    let at-log-word = at-struct-known2 .before .before .before .before in
-    let past3 = at-log-word .before .before .before .before in
-    let at-plan-at-arg2 = past3 .before .before .before .before in
-    let past2 = at-plan-at-arg2 .before .before in
-    let at-loop = past2 .before .before in
-    let h = at-loop .loop .inv .1 .spent in
-    omega (arith, past2 .if2 .left)
+    let at-push = at-struct-known2 .before .before .before in
+    let past4 = due-of at-push in
+    let at-plan = plan-of past4 in
+    let h = loop-of at-plan .loop .inv .1 .spent in
+    omega (arith, left-of at-plan .if2 .left)
 
 loop-again : tie.Need-loop-again Inv-loop μ-loop
 loop-again c =
@@ -333,18 +338,13 @@ loop-again c =
     let at-target = at-write .before .before .before .before in
     let past5 = at-target .before in
     let at-push = past5 .before .before .before .before in
-    let at-log-word = at-push .before in
-    let past4 = at-log-word .before .before in
-    let at-both = past4 .before in
-    let past3 = at-both .before in
-    let at-plan-at = past3 .before .before in
-    let past2 = at-plan-at .before .before .before .before in
-    let past1 = past2 .before in
-    let at-loop = past1 .before in (
-      at-loop .loop .inv .0,
-      at-next _ _ _ _ _ _ _ _ _ _ _ (at-loop .loop .inv .1) (λ e. past1 .if1 .left (e ∙ sym (at-loop .loop .inv .0))) (past2 .if2 .left) _ (at-plan-at .plan-at .ensures)
-          (past3 .if3 .left) _ (at-both .both .ensures)
-          (past4 .if4 .left) _ _ _ (at-log-word .log-word .ensures) (at-push .push .ensures .0) (at-push .push .ensures .1)
+    let past4 = due-of at-push in
+    let at-plan = plan-of past4 in (
+      loop-of at-plan .loop .inv .0,
+      at-next _ _ _ _ _ _ _ _ _ _ _ (loop-of at-plan .loop .inv .1) (λ e. more-of at-plan .if1 .left (e ∙ sym (loop-of at-plan .loop .inv .0)))
+          (left-of at-plan .if2 .left) _ (at-plan .plan-at .ensures)
+          (past4 .before .before .if3 .left) _ (past4 .before .both .ensures)
+          (past4 .if4 .left) _ _ _ (at-push .before .log-word .ensures) (at-push .push .ensures .0) (at-push .push .ensures .1)
           (past5 .if5 .left) _ (at-write .write .ensures)
           (of-bytes _ _ _ (λ j. at-slice-known6 .slice-known6 .given j .fits) (λ j. at-slice-known7 .slice-known7 .given j .fits) (λ j. c .slice-known8 .given j .fits)),
     )

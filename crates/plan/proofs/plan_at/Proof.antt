@@ -1,6 +1,6 @@
 -- `plan::plan_at` meets its contract.
 use native.Mathlib.Omega.{arith}
-use mathlib.Core.Path.{sym, ap, _∙_}
+use mathlib.Core.Path.{ap, _∙_}
 use borrow.Author.Needs.{needs}
 use Rattle.operation.specs.Rules.{accesses, branches}
 use Rattle.machine.specs.Program.{programOf}
