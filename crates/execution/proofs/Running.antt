@@ -3,7 +3,7 @@ use Prim.Native.Nat.{ℕ, zero, suc, _+_, _-_, _≤_, _<_}
 use native.Mathlib.Nat.{sub-zero}
 use native.Mathlib.Numerals.{add-one}
 use native.Mathlib.Omega.{arith}
-use mathlib.Core.Path.{_≡_, refl, sym, ap, subst, _∙_}
+use mathlib.Core.Path.{_≡_, refl, sym, ap, _∙_}
 use mathlib.Core.Bool.{Bool, true, false, cond, _&&_}
 use mathlib.Core.List.{List, [], _∷_, _++_, append-nil}
 use borrow.Author.Tests.{lt-ltb, le-ltb, leb-true, leb-false, eq-eqb, ne-eqb}
@@ -11,7 +11,6 @@ use lib.Dec.{eqb, ltb, leb}
 use lib.ListN.{length, take, drop, set, length-set, take-append-drop}
 use lib.Seq.{length-take-le, take-suc-set, drop-set-lt, drop-drop}
 use Rattle.word.specs.Word.{bytesOf}
-use Rattle.operation.specs.declared.layout.Lengths.{Lengths}
 use Rattle.operation.specs.Layout.{operationCount}
 use Rattle.machine.specs.Program.{Program, bigEndian}
 use Rattle.machine.specs.Memory.{Memory, OfBytes, lengthsOf, written, valueAt}
@@ -26,7 +25,7 @@ use Rattle.plan.specs.Valid.{Valid}
 use Rattle.plan.specs.Plans.{planned}
 use Rattle.plan.proofs.Steps.{wordsOf, carried, step-plain}
 use Rattle.plan.proofs.Bounds.{next-within, target-writable, low-small}
-use Rattle.plan.proofs.Places.{index-small}
+use Rattle.plan.proofs.Places.{valid-with, index-small}
 use Rattle.execution.specs.Loops.{position}
 
 -- ---- the log
@@ -146,7 +145,7 @@ module _ (program : Program) (budget start from : ℕ) (log₀ : List ℕ) (m₀
     before-end = let h : i ≤ operationCount (program .list) = g .index in omega arith
 
     pub still : Valid (lengthsOf m) (program .list)
-    still = subst (λ (l : Lengths). Valid l (program .list)) (sym (g .lengths)) (g .valid)
+    still = valid-with (g .lengths) (g .valid)
 
     pub may-plan : Valid (lengthsOf m) (program .list) × (i < operationCount (program .list))
     may-plan = (still, before-end)

@@ -1,9 +1,9 @@
 -- One labelled operation: the plain one, and the labels of what it wrote.
-use Prim.Native.Nat.{ℕ, _+_, _*_, _-_, _%_, _^_, _≤_, _<_}
+use Prim.Native.Nat.{ℕ, _+_, _*_, _%_, _^_, _≤_, _<_}
 use native.Mathlib.Nat.{add-comm, add-mul-mod-self-right, mod-eq-of-lt}
 use native.Mathlib.Omega.{arith}
-use mathlib.Core.Path.{_≡_, refl, sym, ap, subst, _∙_}
-use mathlib.Core.Bool.{Bool, true, false, cond, _&&_, _||_}
+use mathlib.Core.Path.{_≡_, refl, sym, ap, _∙_}
+use mathlib.Core.Bool.{Bool, true, false, cond, _&&_, _||_, true≢false}
 use mathlib.Core.List.{List, [], _∷_, _++_, append-assoc}
 use borrow.Author.Tests.{eqb-true, leb-false}
 use lib.Dec.{eqb, leb, ltb}
@@ -13,7 +13,6 @@ use Rattle.word.specs.Word.{bytesOf}
 use Rattle.integer.specs.Operations.{flag}
 use Rattle.integer.proofs.Booleans.{both, neither}
 use Rattle.arithmetic.specs.Operands.{among}
-use Rattle.operation.specs.declared.layout.Lengths.{Lengths}
 use Rattle.operation.specs.declared.layout.Varnode.{Varnode}
 use Rattle.operation.specs.declared.report.Report.{Report}
 use Rattle.operation.specs.Layout.{operationCount}
@@ -24,15 +23,15 @@ use Rattle.machine.specs.Effect.{Operation, operationAt, absent, pointed}
 use Rattle.machine.specs.Run.{Position, logWord, advanced, ended, continued, run}
 use Rattle.machine.specs.Calls.{Outcome, unlabelled, logAfter, outcomeOf, plainOutcome, labelledOutcome}
 use Rattle.machine.specs.Conditions.{hasSecret, leaks, pastItsSpace, outOfBounds, dividesByZero, writesLog, lowPart, exits, destinationBytes, becomesSecret, labelsAfter, valueWritten, Words}
-use Rattle.machine.proofs.Conditions.{Formed, formed, few-operations, when, absent-written, constant-public}
+use Rattle.machine.proofs.Conditions.{Formed, formed, few-operations, absent-written, constant-public}
 use Rattle.machine.proofs.Limits.{log-length}
 use Rattle.memory.specs.Placed.{Placed}
 use Rattle.plan.specs.declared.Plan.{Plan}
 use Rattle.plan.specs.Valid.{Valid}
 use Rattle.plan.specs.Plans.{unwritten, lowDue, exitPlan, nextPlan, planned}
 use Rattle.plan.proofs.Bounds.{loaded-within, destination-placed, pointer-small}
-use Rattle.plan.proofs.Opcodes.{no-access}
-use Rattle.plan.proofs.Places.{space-length, movable, branching}
+use Rattle.plan.proofs.Opcodes.{each-access, each-branch, no-access}
+use Rattle.plan.proofs.Places.{valid-with, space-length, movable, branching}
 use Rattle.plan.proofs.Steps.{wordsOf, carried, step-leak, step-carried, step-plain}
 use Rattle.execution.specs.Loops.{position}
 use Rattle.execution.proofs.Running.{room-is, run-end}
@@ -69,15 +68,12 @@ other-target op b c e = let n = no-access (op .opcode) e in rw (n .n3) refl
 -- ---- the plan of an operation that goes on
 
 module _ (program : Program) (m : Memory) (op : Operation) (i a b : ℕ) (es : ltb 1 (planned program m op i a b .stop) ≡ false) where
-  no-number : {A : Type 0} → true ≡ false → A
-  no-number f = absurd (let z : _≡_ {A = ℕ} 0 1 = cc in omega arith)
-
   pub plan-inside : outOfBounds m op b ≡ false
   unfolding planned unwritten
   plan-inside = by (outOfBounds m op b) refl
     where
       by : (t : Bool) → outOfBounds m op b ≡ t → t ≡ false
-      by true e = no-number (rw e at es)
+      by true e = absurd (true≢false (rw e at es))
       by false e = refl
 
   pub plan-next : eqb (planned program m op i a b .stop) 1 ≡ false → planned program m op i a b ≡ nextPlan op i b (valueWritten program m op a b)
@@ -85,8 +81,8 @@ module _ (program : Program) (m : Memory) (op : Operation) (i a b : ℕ) (es : l
   plan-next ex = by (dividesByZero op b) refl (exits op b) refl
     where
       by : (z : Bool) → dividesByZero op b ≡ z → (x : Bool) → exits op b ≡ x → planned program m op i a b ≡ nextPlan op i b (valueWritten program m op a b)
-      by true ez x exx = no-number (rw (plan-inside, ez) at es)
-      by false ez true exx = no-number (rw (plan-inside, ez, exx) at ex)
+      by true ez x exx = absurd (true≢false (rw (plan-inside, ez) at es))
+      by false ez true exx = absurd (true≢false (rw (plan-inside, ez, exx) at ex))
       by false ez false exx = rw (plan-inside, ez, exx) refl
 
 -- the low part of a log word
@@ -95,28 +91,12 @@ unfolding logWord
 low-part i b h = ap (λ (x : ℕ). x % 2 ^ 32) (add-comm (i * 2 ^ 32) b) ∙ add-mul-mod-self-right b i (2 ^ 32) ∙ mod-eq-of-lt h
 
 access-logs : (op : Operation) → accesses (op .opcode) ≡ true → writesLog op ≡ true
-unfolding accesses writesLog among
-access-logs op e = by (eqb (op .opcode) 2) refl (eqb (op .opcode) 3) refl
-  where
-    by : (s : Bool) → eqb (op .opcode) 2 ≡ s → (t : Bool) → eqb (op .opcode) 3 ≡ t → eqb (op .opcode) 2 || (eqb (op .opcode) 3 || (eqb (op .opcode) 5 || false)) ≡ true
-    by true es t et = rw es refl
-    by false es true et = rw (es, et) refl
-    by false es false et = absurd (let f : false ≡ true = rw (es, et) at e in let z : _≡_ {A = ℕ} 0 1 = cc in omega arith)
-
-no-condition : (n : ℕ) → accesses n ≡ true → eqb n 5 ≡ false
-unfolding accesses among
-no-condition n e =
-    when n 2 (λ k. rw k refl) (λ n2. when n 3 (λ k. rw k refl) (λ n3. absurd (let f : false ≡ true = rw (n2, n3) at e in let z : _≡_ {A = ℕ} 0 1 = cc in omega arith)))
+unfolding writesLog among
+access-logs op e = each-access (λ n. among n (2 ∷ 3 ∷ 5 ∷ []) ≡ true) refl refl (op .opcode) e
 
 access-low : (op : Operation) (b : ℕ) → accesses (op .opcode) ≡ true → lowDue op b ≡ b
 unfolding lowDue lowPart
-access-low op b e = rw (access-logs op e, no-condition (op .opcode) e) refl
-
-no-store : (n : ℕ) → branches n ≡ true → eqb n 3 ≡ false
-unfolding branches among
-no-store n e =
-    when n 4 (λ k. rw k refl) (λ n4. when n 5 (λ k. rw k refl) (λ n5. when n 7 (λ k. rw k refl) (λ n7.
-    absurd (let f : false ≡ true = rw (n4, n5, n7) at e in let z : _≡_ {A = ℕ} 0 1 = cc in omega arith))))
+access-low op b e = rw (access-logs op e, each-access (λ n. eqb n 5 ≡ false) refl refl (op .opcode) e) refl
 
 -- bounds are a matter of lengths
 bounds-by-lengths : (labels m : Memory) (op : Operation) (b : ℕ) → lengthsOf labels ≡ lengthsOf m → outOfBounds labels op b ≡ outOfBounds m op b
@@ -317,7 +297,7 @@ module _ (program : Program) (i k : ℕ) (log : List ℕ) (labels m : Memory) (w
   module _ (log₁ : List ℕ) (inside : i < operationCount (program .list)) (public : leaks labels op ≡ false) (bounds : outOfBounds m op b ≡ false)
       (logged : accesses (op .opcode) ≡ true → (k < length log₁) × (pointerLogged op log₁ k ≡ b)) where
     valid : Valid (lengthsOf labels) (program .list)
-    valid = subst (λ (l : Lengths). Valid l (program .list)) (sym fit) v
+    valid = valid-with fit v
 
     bounded : outOfBounds labels op b ≡ false
     bounded = bounds-by-lengths labels m op b fit ∙ bounds
@@ -343,7 +323,7 @@ module _ (program : Program) (i k : ℕ) (log : List ℕ) (labels m : Memory) (w
         by true e =
             let small = few-operations (lengthsOf m) (program .list) (v .inRange) in
             let h = branching m (v .addressSize) (program .list) i (v .operations i inside) (program .settings) words bytes small e in
-            absurd (s (rw (no-store (op .opcode) e, h .noOutput) refl))
+            absurd (s (rw (each-branch (λ n. eqb n 3 ≡ false) refl refl refl (op .opcode) e, h .noOutput) refl))
 
     public-pointer : eqb (op .opcode) 2 ≡ true → hasSecret labels (op .input1) ≡ false
     unfolding leaks among

@@ -1,13 +1,12 @@
 -- One turn: LEAK, the operations, their labels.
 use Prim.Native.Nat.{ℕ, zero, suc, _≤_, _<_}
 use native.Mathlib.Omega.{arith}
-use mathlib.Core.Path.{_≡_, refl, sym, ap, subst, _∙_}
-use mathlib.Core.Bool.{Bool, true, false, cond, not, _&&_}
+use mathlib.Core.Path.{_≡_, refl, sym, ap, _∙_}
+use mathlib.Core.Bool.{Bool, true, false, cond, not, _&&_, true≢false}
 use mathlib.Core.List.{List}
 use borrow.Author.Tests.{ltb-true, ne-eqb}
 use lib.Dec.{eqb, ltb}
 use lib.ListN.{length}
-use Rattle.operation.specs.declared.layout.Lengths.{Lengths}
 use Rattle.operation.specs.declared.report.Report.{Report}
 use Rattle.operation.specs.Layout.{operationCount}
 use Rattle.machine.specs.Program.{Program}
@@ -17,6 +16,7 @@ use Rattle.machine.specs.Run.{run}
 use Rattle.machine.specs.Calls.{unlabelled, outcomeOf, plainOutcome, labelledOutcome}
 use Rattle.machine.specs.Conditions.{leaks, labelsAfter, Words}
 use Rattle.plan.specs.Valid.{Valid}
+use Rattle.plan.proofs.Places.{valid-with}
 use Rattle.execution.specs.Loops.{position}
 use Rattle.labelled.specs.Turns.{Fitting, leakReport, wentOn, pointerLogged, Markable}
 use Rattle.labelled.proofs.Marking.{Done, done-idle, idle-executed, done-end, done-leak, done-step, markable}
@@ -24,7 +24,7 @@ use Rattle.labelled.proofs.Marking.{Done, done-idle, idle-executed, don
 -- the labels of a labelled run have room for the same list
 pub labels-valid : {labelled : Bool} {labels m : Memory} {list : List ℕ} → Valid (lengthsOf m) list → Fitting labelled labels m → labelled ≡ true
     → Valid (lengthsOf labels) list
-labels-valid {list = list} v fit t = subst (λ (l : Lengths). Valid l list) (sym (fit .lengths t)) v
+labels-valid v fit t = valid-with (fit .lengths t) v
 
 module _ (labelled : Bool) (program : Program) (i k most : ℕ) (log : List ℕ) (labels m : Memory) (words : Words (program .list)) (bytes : OfBytes m)
     (v : Valid (lengthsOf m) (program .list)) (place : k ≤ length log) (fit : Fitting labelled labels m) (one : labelled ≡ true → most ≤ 1)
@@ -99,7 +99,7 @@ module _ (labelled : Bool) (program : Program) (i k most : ℕ) (log : List ℕ)
 
   module _ (went : Bool) (ew : went ≡ wentOn labelled (done .executed) (done .ending)) where
     no-went : {A : Type 0} → went ≡ false → went ≡ true → A
-    no-went f t = absurd (let z : _≡_ {A = ℕ} 0 1 = cc in omega arith)
+    no-went f t = absurd (true≢false (sym t ∙ f))
 
     -- it did not go on
     stayed : done .executed ≡ 0 → went ≡ false

@@ -2,14 +2,13 @@
 use Prim.Native.Nat.{ℕ, _+_, _-_, _≤_, _<_}
 use native.Mathlib.Nat.{sub-zero}
 use native.Mathlib.Omega.{arith}
-use mathlib.Core.Path.{_≡_, refl, sym, ap, subst, _∙_}
+use mathlib.Core.Path.{_≡_, refl, sym, ap, _∙_}
 use mathlib.Core.Bool.{Bool, true, false, cond, _&&_}
 use mathlib.Core.List.{List, []}
 use borrow.Author.Tests.{eqb-true, eqb-false, ltb-true, ltb-false}
 use lib.Dec.{eqb, ltb}
 use lib.ListN.{length}
 use Rattle.integer.proofs.Booleans.{both}
-use Rattle.operation.specs.declared.layout.Lengths.{Lengths}
 use Rattle.operation.specs.declared.report.Report.{Report}
 use Rattle.operation.specs.Layout.{operationCount}
 use Rattle.machine.specs.Program.{Program}
@@ -20,6 +19,7 @@ use Rattle.machine.proofs.Budget.{later, laterEnded, run-index, run-later}
 use Rattle.machine.proofs.Limits.{run-counts}
 use Rattle.machine.proofs.Resume.{no-labels}
 use Rattle.plan.specs.Valid.{Valid}
+use Rattle.plan.proofs.Places.{valid-with}
 use Rattle.execution.specs.Loops.{position}
 use Rattle.execution.proofs.Running.{Log, ended-at}
 use Rattle.labelled.specs.Turns.{Fitting, turnOf}
@@ -69,7 +69,7 @@ module _ (labelled : Bool) (program : Program) (budget start from : ℕ) (log₀
   pub may-turn : (most : ℕ) → most ≡ turnOf labelled left
       → Valid (lengthsOf m) (program .list) × (i ≤ operationCount (program .list)) × (k ≤ length log) × Fitting labelled labels m × (labelled ≡ true → most ≤ 1)
   may-turn most em = (
-    subst (λ (l : Lengths). Valid l (program .list)) (sym (g .lengths)) (g .valid),
+    valid-with (g .lengths) (g .valid),
     g .index,
     g .logs .place,
     record {
@@ -166,22 +166,14 @@ module _ (labelled : Bool) (program : Program) (budget start from : ℕ) (log₀
         ended-at log₀ log′ (done .logged) logs-kept (done .ending) (done .value) (done .index) (executed + done .executed) labels′ m′
         ∙ ap (outcomeOf log₀) (rw (is-ending, is-value, is-labels, is-memory, ← here) (sym (counted ∙ ap (laterEnded executed []) q)) ∙ g .same)
 
-    spent-all : r .ending ≡ 2 → (executed + done .executed < budget → ⊥) → most ≡ left
+    spent-all : r .ending ≡ 2 → budget ≤ executed + done .executed → most ≡ left
     unfolding position
     spent-all z n =
         let c = run-counts program most (position i k 0 log) labels m .stopped z in
         let f = fits in
         let x = is-executed in
         let s : executed ≤ budget = g .spent in
-        let o : budget ≤ executed + done .executed = not-below (executed + done .executed) budget n in
         omega arith
-      where
-        not-below : (x y : ℕ) → (x < y → ⊥) → y ≤ x
-        not-below x y h = by (ltb x y) refl
-          where
-            by : (t : Bool) → ltb x y ≡ t → y ≤ x
-            by true t = absurd (h (ltb-true x y t))
-            by false t = ltb-false x y t
 
     pub at-ended : eqb (done .ending) 2 && ltb (executed + done .executed) budget ≡ false → Finally
     at-ended p = finished (by (eqb (done .ending) 2) refl)
@@ -192,7 +184,7 @@ module _ (labelled : Bool) (program : Program) (budget start from : ℕ) (log₀
             let z : r .ending ≡ 2 = sym is-ending ∙ eqb-true (done .ending) 2 t in
             let q : ltb (executed + done .executed) budget ≡ false = rw t at p in
             let n : budget ≤ executed + done .executed = ltb-false (executed + done .executed) budget q in
-            ap (λ (b : ℕ). run program b (position i k 0 log) labels m) (sym (spent-all z (λ w. omega arith)))
+            ap (λ (b : ℕ). run program b (position i k 0 log) labels m) (sym (spent-all z n))
 
     -- ---- it goes on
 

@@ -1,8 +1,8 @@
 -- What a plan keeps within: its next index, its target and its log word.
 use Prim.Native.Nat.{ℕ, _+_, _%_, _^_, _≤_, _<_}
 use native.Mathlib.Omega.{arith}
-use mathlib.Core.Path.{_≡_, refl}
-use mathlib.Core.Bool.{Bool, true, false, cond, not, _&&_, _||_}
+use mathlib.Core.Path.{_≡_, refl, sym}
+use mathlib.Core.Bool.{Bool, true, false, cond, not, _&&_, _||_, true≢false}
 use mathlib.Core.List.{[], _∷_}
 use borrow.Author.Tests.{eqb-true, eq-eqb, leb-true, not-false}
 use lib.Dec.{eqb, leb}
@@ -25,7 +25,6 @@ use Rattle.memory.specs.Placed.{Placed}
 use Rattle.plan.specs.declared.Plan.{Plan}
 use Rattle.plan.specs.Valid.{Valid}
 use Rattle.plan.specs.Plans.{unwritten, lowDue, exitPlan, nextPlan, planned}
-use Rattle.plan.proofs.Opcodes.{no-number}
 use Rattle.plan.proofs.Places.{space-length, placed, movable, in-range}
 
 -- what holds in each case of a condition, by what the test says
@@ -41,7 +40,7 @@ nowhere m = record { size = omega arith; known = omega arith; nowhere = λ z. re
 taken-branches : (n : ℕ) (t : Bool) → among n (4 ∷ 7 ∷ []) || (eqb n 5 && t) ≡ true → branches n ≡ true
 unfolding branches among
 taken-branches n t h =
-    when n 4 (λ e. rw e refl) (λ n4. when n 5 (λ e. rw e refl) (λ n5. when n 7 (λ e. rw e refl) (λ n7. no-number (rw (n4, n5, n7) at h))))
+    when n 4 (λ e. rw e refl) (λ n4. when n 5 (λ e. rw e refl) (λ n5. when n 7 (λ e. rw e refl) (λ n7. absurd (true≢false (sym (rw (n4, n5, n7) at h))))))
 
 stores-access : (n : ℕ) → eqb n 3 ≡ true → accesses n ≡ true
 unfolding accesses among
@@ -156,11 +155,11 @@ module _ (program : Program) (m : Memory) (i : ℕ) (v : Valid (lengthsOf m) (pr
   pointer-small b o k =
       let s = space-small (op .input0 .offset) in
       when (op .opcode) 2 (λ e. let l = loaded-within m op b o (eq-eqb (op .opcode) 2 e) in omega arith) (λ n2.
-      when (op .opcode) 3 (λ e. let l = stored-within m op b o (eq-eqb (op .opcode) 3 e) in omega arith) (λ n3. no-number (rw (n2, n3) at k)))
+      when (op .opcode) 3 (λ e. let l = stored-within m op b o (eq-eqb (op .opcode) 3 e) in omega arith) (λ n3. absurd (true≢false (sym (rw (n2, n3) at k)))))
 
   logs-access : (n : ℕ) → eqb n 5 ≡ false → among n (2 ∷ 3 ∷ 5 ∷ []) ≡ true → accesses n ≡ true
   unfolding accesses among
-  logs-access n n5 k = when n 2 (λ e. rw e refl) (λ n2. when n 3 (λ e. rw e refl) (λ n3. no-number (rw (n2, n3, n5) at k)))
+  logs-access n n5 k = when n 2 (λ e. rw e refl) (λ n2. when n 3 (λ e. rw e refl) (λ n3. absurd (true≢false (sym (rw (n2, n3, n5) at k)))))
 
   low-due : (b : ℕ) → outOfBounds m op b ≡ false → Small (lowDue op b)
   unfolding lowDue lowPart writesLog

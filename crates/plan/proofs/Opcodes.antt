@@ -1,8 +1,7 @@
 -- An operation by its opcode: what holds of the opcodes of a class holds of every operation whose opcode is one of them.
 use Prim.Native.Nat.{ℕ}
-use native.Mathlib.Omega.{arith}
 use mathlib.Core.Path.{_≡_, refl, sym, ap, subst, _∙_}
-use mathlib.Core.Bool.{Bool, true, false, _||_}
+use mathlib.Core.Bool.{Bool, true, false, _||_, true≢false}
 use mathlib.Core.List.{[], _∷_}
 use borrow.Author.Tests.{eq-eqb, ne-eqb}
 use lib.Dec.{eqb}
@@ -35,36 +34,36 @@ divides-among n =
 
 -- ---- the opcodes of a class, one by one
 
-pub no-number : {A : Type 0} → false ≡ true → A
-no-number f = absurd (let z : _≡_ {A = ℕ} 0 1 = cc in omega arith)
+pub each-access : (P : ℕ → Type 0) → P 2 → P 3 → (n : ℕ) → accesses n ≡ true → P n
+unfolding accesses among
+each-access P p2 p3 n a =
+    when n 2 (λ e. subst P (sym e) p2) (λ n2. when n 3 (λ e. subst P (sym e) p3) (λ n3. absurd (true≢false (sym (rw (n2, n3) at a)))))
+
+pub each-branch : (P : ℕ → Type 0) → P 4 → P 5 → P 7 → (n : ℕ) → branches n ≡ true → P n
+unfolding branches among
+each-branch P p4 p5 p7 n b =
+    when n 4 (λ e. subst P (sym e) p4) (λ n4. when n 5 (λ e. subst P (sym e) p5) (λ n5. when n 7 (λ e. subst P (sym e) p7) (λ n7.
+    absurd (true≢false (sym (rw (n4, n5, n7) at b))))))
+
+pub each-jump : (P : ℕ → Type 0) → P 6 → P 8 → P 9 → (n : ℕ) → jumps n ≡ true → P n
+unfolding jumps among
+each-jump P p6 p8 p9 n j =
+    when n 6 (λ e. subst P (sym e) p6) (λ n6. when n 8 (λ e. subst P (sym e) p8) (λ n8. when n 9 (λ e. subst P (sym e) p9) (λ n9.
+    absurd (true≢false (sym (rw (n6, n8, n9) at j))))))
 
 module _ (P : Operation → Type 0) (op : Operation) where
-  pub known : (n : ℕ) → op .opcode ≡ n → P (operation n (op .output) (op .input0) (op .input1) (op .input2)) → P op
-  known n e h = subst (λ (k : ℕ). P (operation k (op .output) (op .input0) (op .input1) (op .input2))) (sym e) h
+  abbrev With : Varnode → ℕ → Type 0
+  With output n = P (operation n output (op .input0) (op .input1) (op .input2))
 
-  pub by-access : accesses (op .opcode) ≡ true → P (operation 2 (op .output) (op .input0) (op .input1) (op .input2))
-      → P (operation 3 (op .output) (op .input0) (op .input1) (op .input2)) → P op
-  unfolding accesses among
-  by-access a p2 p3 =
-      when (op .opcode) 2 (λ e. known 2 e p2) (λ n2. when (op .opcode) 3 (λ e. known 3 e p3) (λ n3. no-number (rw (n2, n3) at a)))
+  pub by-access : accesses (op .opcode) ≡ true → With (op .output) 2 → With (op .output) 3 → P op
+  by-access a p2 p3 = each-access (With (op .output)) p2 p3 (op .opcode) a
 
-  pub by-jump : jumps (op .opcode) ≡ true → P (operation 6 (op .output) (op .input0) (op .input1) (op .input2))
-      → P (operation 8 (op .output) (op .input0) (op .input1) (op .input2)) → P (operation 9 (op .output) (op .input0) (op .input1) (op .input2)) → P op
-  unfolding jumps among
-  by-jump j p6 p8 p9 =
-      when (op .opcode) 6 (λ e. known 6 e p6) (λ n6. when (op .opcode) 8 (λ e. known 8 e p8) (λ n8. when (op .opcode) 9 (λ e. known 9 e p9) (λ n9.
-      no-number (rw (n6, n8, n9) at j))))
+  pub by-jump : jumps (op .opcode) ≡ true → With (op .output) 6 → With (op .output) 8 → With (op .output) 9 → P op
+  by-jump j p6 p8 p9 = each-jump (With (op .output)) p6 p8 p9 (op .opcode) j
 
   -- a branch has no output
-  pub by-branch : branches (op .opcode) ≡ true → op .output ≡ absent → P (operation 4 absent (op .input0) (op .input1) (op .input2))
-      → P (operation 5 absent (op .input0) (op .input1) (op .input2)) → P (operation 7 absent (op .input0) (op .input1) (op .input2)) → P op
-  unfolding branches among
-  by-branch b a p4 p5 p7 =
-      when (op .opcode) 4 (λ e. known 4 e (bare 4 p4)) (λ n4. when (op .opcode) 5 (λ e. known 5 e (bare 5 p5)) (λ n5.
-      when (op .opcode) 7 (λ e. known 7 e (bare 7 p7)) (λ n7. no-number (rw (n4, n5, n7) at b))))
-    where
-      bare : (n : ℕ) → P (operation n absent (op .input0) (op .input1) (op .input2)) → P (operation n (op .output) (op .input0) (op .input1) (op .input2))
-      bare n h = subst (λ (v : Varnode). P (operation n v (op .input0) (op .input1) (op .input2))) (sym a) h
+  pub by-branch : branches (op .opcode) ≡ true → op .output ≡ absent → With absent 4 → With absent 5 → With absent 7 → P op
+  by-branch b a p4 p5 p7 = subst (λ (v : Varnode). With v (op .opcode)) (sym a) (each-branch (With absent) p4 p5 p7 (op .opcode) b)
 
 -- ---- an opcode that is none of a class
 

@@ -1,7 +1,7 @@
 -- What a well-formed operation gives the code: where it may read, what it may move and what it may compute.
 use Prim.Native.Nat.{ℕ, _+_, _*_, _%_, _^_, _≤_, _<_}
 use native.Mathlib.Nat.{div-mul-le-self}
-use mathlib.Core.Path.{_≡_, refl, sym}
+use mathlib.Core.Path.{_≡_, refl, sym, subst}
 use mathlib.Core.Bool.{Bool, true, false, cond, not, _&&_, _||_}
 use mathlib.Core.List.{List, []}
 use native.Mathlib.Omega.{arith}
@@ -22,11 +22,16 @@ use Rattle.validation.specs.WellFormed.{WellFormed}
 use Rattle.machine.specs.Memory.{Memory, OfBytes, spaces, lengthsOf, spaceOf, valueAt}
 use Rattle.machine.specs.Effect.{operationAt, absent}
 use Rattle.machine.specs.Conditions.{Words}
-use Rattle.machine.proofs.Conditions.{Destination, Formed, formed, when}
+use Rattle.machine.proofs.Conditions.{Destination, Formed, formed}
 use Rattle.machine.proofs.Cases.{either}
 use Rattle.memory.specs.Placed.{Placed}
 use Rattle.plan.specs.Valid.{Valid}
 use Rattle.plan.specs.Plans.{Movable, Branching, Computable}
+use Rattle.plan.proofs.Opcodes.{each-access, each-branch, no-branch}
+
+-- a list is valid by the lengths of the spaces alone
+pub valid-with : {a b : Lengths} {list : List ℕ} → a ≡ b → Valid b list → Valid a list
+valid-with {list = list} e v = subst (λ (l : Lengths). Valid l list) (sym e) v
 
 -- three lent buffers hold bytes
 pub of-bytes : (unique register ram : List ℕ) → Bytes unique → Bytes register → Bytes ram → OfBytes (spaces unique register ram)
@@ -50,14 +55,9 @@ five n l n1 n2 n3 n4 = omega arith
 ten-from : (n : ℕ) → 5 ≤ n → (n ≡ 5 → ⊥) → (n ≡ 6 → ⊥) → (n ≡ 7 → ⊥) → (n ≡ 8 → ⊥) → (n ≡ 9 → ⊥) → 10 ≤ n
 ten-from n l n5 n6 n7 n8 n9 = omega arith
 
-not-conditional : (n : ℕ) → branches n ≡ false → eqb n 5 ≡ false
-unfolding branches among
-not-conditional n b = neither (eqb n 5) (eqb n 7 || false) (neither (eqb n 4) (eqb n 5 || (eqb n 7 || false)) b .1) .0
-
 accesses-no-branch : (n : ℕ) → accesses n ≡ true → branches n ≡ false
 unfolding accesses branches among
-accesses-no-branch n a =
-    when n 2 (λ e. rw e refl) (λ n2. when n 3 (λ e. rw e refl) (λ n3. absurd (let f : false ≡ true = rw (n2, n3) at a in let z : _≡_ {A = ℕ} 0 1 = cc in omega arith)))
+accesses-no-branch n a = each-access (λ k. branches k ≡ false) refl refl n a
 
 module _ (m : Memory) (addressSize : ℕ) (list : List ℕ) (i : ℕ) (w : WellFormed addressSize (lengthsOf m) list i) where
   pub placed : (place : ℕ) → place ≤ 3 → (place ≡ 1 → branches (opcodeAt list i) ≡ false) → Placed m (varnodeAt list i place)
@@ -112,7 +112,7 @@ module _ (m : Memory) (addressSize : ℕ) (list : List ℕ) (i : ℕ) (w : WellF
   agree : (opcodeAt list i ≡ 1 → ⊥) → accesses (opcodeAt list i) ≡ false → branches (opcodeAt list i) ≡ false → jumps (opcodeAt list i) ≡ false
       → sizesAgree (opcodeAt list i) (varnodeAt list i 0 .size) (varnodeAt list i 1 .size) (varnodeAt list i 2 .size) ≡ true
   unfolding breaksSize
-  agree n1 a b j = not-false _ (rw (ne-eqb (opcodeAt list i) 1 n1, a, j, not-conditional (opcodeAt list i) b, b) at (w .sized))
+  agree n1 a b j = not-false _ (rw (ne-eqb (opcodeAt list i) 1 n1, a, j, no-branch (opcodeAt list i) b .n5, b) at (w .sized))
 
   pub computable : (settings : Settings) → Words list → OfBytes m → operationCount list < 2 ^ 64 → accesses (opcodeAt list i) ≡ false → branches (opcodeAt list i) ≡ false
       → (a b : ℕ) → a ≡ valueAt settings m (varnodeAt list i 1) → b ≡ valueAt settings m (varnodeAt list i 2) → Computable (operationAt list i) a b
@@ -146,9 +146,7 @@ module _ (m : Memory) (addressSize : ℕ) (list : List ℕ) (i : ℕ) (w : WellF
       record {
         opcode = b;
         relative = by (f .branchTo b);
-        noOutput = f .noOutput
-            (when (opcodeAt list i) 4 (λ e. rw e refl) (λ n4. when (opcodeAt list i) 5 (λ e. rw e refl) (λ n5. when (opcodeAt list i) 7 (λ e. rw e refl) (λ n7.
-            absurd (let z : false ≡ true = rw (n4, n5, n7) at b in let y : _≡_ {A = ℕ} 0 1 = cc in omega arith)))));
+        noOutput = f .noOutput (each-branch (λ k. hasPlace k 0 ≡ false) refl refl refl (opcodeAt list i) b);
       }
     where
       by : Destination i (varnodeAt list i 1) → eqb (varnodeAt list i 1 .space) 1 ≡ not (eqb (varnodeAt list i 1 .space) 4)

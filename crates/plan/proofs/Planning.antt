@@ -2,7 +2,7 @@
 use Prim.Native.Nat.{ℕ, suc, _+_, _%_, _^_, _≤_, _<_}
 use native.Mathlib.Omega.{arith}
 use mathlib.Core.Path.{_≡_, refl, sym, ap, _∙_}
-use mathlib.Core.Bool.{Bool, true, false, cond, not, _&&_}
+use mathlib.Core.Bool.{Bool, true, false, cond, not, _&&_, true≢false}
 use native.Mathlib.Numerals.{add-one}
 use borrow.Author.Tests.{eqb-false, eq-eqb, ne-eqb, leb-true, not-true, not-false}
 use lib.Dec.{eqb, leb}
@@ -40,10 +40,7 @@ module _ (i b : ℕ) where
   module _ (op : Operation) (h : Branching op) where
     pub skips : Skips op
     unfolding branchPlan exits branchTaken taken exitPlan nextPlan nextIndex writesLog lowDue lowPart destinationBytes unwritten among flag absent
-    skips = by-branch Skips op (h .opcode) (h .noOutput) (λ z. no z) (λ z. rw z refl) (λ z. no z)
-      where
-        no : {A : Type 0} → false ≡ true → A
-        no f = absurd (let z : _≡_ {A = ℕ} 0 1 = cc in omega arith)
+    skips = by-branch Skips op (h .opcode) (h .noOutput) (λ z. absurd (true≢false (sym z))) (λ z. rw z refl) (λ z. absurd (true≢false (sym z)))
 
     pub leaves : Leaves op
     unfolding branchPlan exits branchTaken taken exitPlan nextPlan destination writesLog lowDue lowPart unwritten among flag
@@ -181,7 +178,7 @@ module _ (op : Operation) (a b n : ℕ) (en : n ≡ op .opcode) (h : Computable 
         may-compute = rw (en, eo, e0, e1) (h .operands (jumping f) (λ e. k (en ∙ e)) (λ q. positive (eqb b 0) refl q))
           where
             positive : (t : Bool) → eqb b 0 ≡ t → divides (op .opcode) ≡ true → 0 < b
-            positive true e q = let y : true ≡ false = sym (rw (q, e) refl) ∙ dividing g in absurd (let y : _≡_ {A = ℕ} 0 1 = cc in omega arith)
+            positive true e q = absurd (true≢false (sym (rw (q, e) refl) ∙ dividing g))
             positive false e q = let p : b ≡ 0 → ⊥ = eqb-false b 0 e in omega arith
 
         pub code-computes : (i : ℕ) (r : Plan) (x : ℕ) → x ≡ result n (out .size) (v0 .size) (v1 .size) a b

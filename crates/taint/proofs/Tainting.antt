@@ -13,11 +13,11 @@ use Rattle.operation.specs.Rules.{accesses, branches, jumps}
 use Rattle.machine.specs.Memory.{Memory, lengthsOf}
 use Rattle.machine.specs.Effect.{Operation, absent, pointed}
 use Rattle.machine.specs.Conditions.{hasSecret, leaks, destinationBytes, becomesSecret}
-use Rattle.machine.proofs.Conditions.{when, absent-public}
+use Rattle.machine.proofs.Conditions.{absent-public}
 use Rattle.memory.specs.Placed.{Placed}
 use Rattle.plan.specs.Valid.{Valid}
 use Rattle.plan.proofs.Bounds.{nowhere, when-true}
-use Rattle.plan.proofs.Opcodes.{divides-among}
+use Rattle.plan.proofs.Opcodes.{divides-among, each-jump}
 use Rattle.plan.proofs.Places.{placed}
 
 -- ---- LEAK: by input0, or by input1
@@ -93,9 +93,7 @@ module _ (labels : Memory) (op : Operation) (b : ℕ) where
 
 jumps-no-branch : (n : ℕ) → jumps n ≡ true → branches n ≡ false
 unfolding jumps branches among
-jumps-no-branch n j =
-    when n 6 (λ e. rw e refl) (λ n6. when n 8 (λ e. rw e refl) (λ n8. when n 9 (λ e. rw e refl) (λ n9.
-    absurd (let f : false ≡ true = rw (n6, n8, n9) at j in let z : _≡_ {A = ℕ} 0 1 = cc in omega arith))))
+jumps-no-branch n j = each-jump (λ k. branches k ≡ false) refl refl refl n j
 
 module _ (labels : Memory) (list : List ℕ) (v : Valid (lengthsOf labels) list) (i : ℕ) (h : i < operationCount list) where
   pub place : (k : ℕ) → k ≤ 3 → (k ≡ 1 → branches (opcodeAt list i) ≡ false) → Placed labels (varnodeAt list i k)
