@@ -34,8 +34,8 @@ use Rattle.plan.proofs.Opcodes.{each-access, each-branch, no-access}
 use Rattle.plan.proofs.Places.{valid-with, space-length, movable, branching}
 use Rattle.plan.proofs.Steps.{wordsOf, carried, step-leak, step-carried, step-plain}
 use Rattle.execution.specs.Loops.{position}
-use Rattle.execution.proofs.Running.{room-is, run-end}
-use Rattle.labelled.specs.Turns.{leakReport, pointerLogged, Markable}
+use Rattle.execution.proofs.Running.{ended-at, room-is, run-end}
+use Rattle.labelled.specs.Turns.{pointerLogged, Markable}
 
 -- ---- what is marked
 
@@ -125,6 +125,14 @@ module _ (program : Program) (i k : ℕ) (log : List ℕ) (labels m : Memory) (w
   abbrev P : Plan
   P = planned program m op i a b
 
+  -- LEAK is told without running anything
+  pub leaked : i < operationCount (program .list) → leaks labels op ≡ true
+      → labelledOutcome (record { ending = 31; index = i; executed = 0; logged = k; value = 0 }) m labels log ≡ outcomeOf log (run program 1 at labels m)
+  unfolding run position continued
+  leaked inside e =
+      ended-at log log k (record { place = place; long = refl; rest = refl }) 31 0 i 0 labels m
+      ∙ ap (outcomeOf log) (sym (ap (continued (run program 0)) (step-leak program at labels m words bytes v inside e)))
+
   module _ (done : Report) (m₁ : Memory) (log₁ : List ℕ) where
     abbrev Plainly : ℕ → Type 0
     Plainly most = plainOutcome done m₁ log₁ ≡ outcomeOf log (run program most at unlabelled m)
@@ -168,10 +176,6 @@ module _ (program : Program) (i k : ℕ) (log : List ℕ) (labels m : Memory) (w
     unfolding run
     done-idle plain = stopped 0 (cond (ltb (at .index) (operationCount (program .list))) 2 0) plain refl refl
 
-    pub idle-executed : Plainly 0 → done .executed ≡ 0
-    unfolding run position
-    idle-executed plain = executed-is 0 (cond (ltb (at .index) (operationCount (program .list))) 2 0) 0 at m plain refl
-
     -- at n, END
     pub done-end : ltb i (operationCount (program .list)) ≡ false → Plainly 1 → Done 1
     unfolding position
@@ -181,13 +185,6 @@ module _ (program : Program) (i k : ℕ) (log : List ℕ) (labels m : Memory) (w
       plain-step : run program 1 at unlabelled m ≡ continued (run program 0) (carried program P at unlabelled unlabelled m)
       unfolding run position
       plain-step = ap (continued (run program 0)) (step-plain program at m words bytes v inside)
-
-      -- LEAK is told without running anything
-      pub done-leak : leaks labels op ≡ true → Plainly 0 → labelledOutcome (leakReport done) m₁ labels log₁ ≡ outcomeOf log (run program 1 at labels m)
-      unfolding outcomeOf ended run leakReport position continued
-      done-leak e plain =
-          ap (λ (o : Outcome). labelledOutcome (leakReport (o .report)) (o .memory) labels (o .log)) plain
-          ∙ ap (outcomeOf log) (sym (ap (continued (run program 0)) (step-leak program at labels m words bytes v inside e)))
 
       module _ (public : leaks labels op ≡ false) (plain : Plainly 1) where
         labelled-step : run program 1 at labels m ≡ continued (run program 0) (carried program P at labels (labelsAfter labels op b) m)

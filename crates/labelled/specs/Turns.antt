@@ -5,7 +5,6 @@ use mathlib.Core.List.{List}
 use mathlib.Core.Path.{_≡_}
 use lib.Dec.{eqb, ltb}
 use lib.ListN.{length, getD}
-use Rattle.operation.specs.declared.report.Report.{Report}
 use Rattle.operation.specs.Layout.{operationCount, opcodeAt}
 use Rattle.operation.specs.Rules.{accesses}
 use Rattle.machine.specs.Memory.{Memory, lengthsOf}
@@ -24,10 +23,6 @@ pub record Fitting (labelled : Bool) (labels m : Memory) : Type 0 where
 -- The budget of a turn: one operation of a labelled run, all that is left of a plain one.
 unfoldable pub turnOf : (labelled : Bool) → (left : ℕ) → ℕ
 turnOf labelled left = cond (labelled && ltb 0 left) 1 left
-
--- LEAK, where nothing was executed.
-unfoldable pub leakReport : Report → Report
-leakReport done = record { ending = 31; index = done .index; executed = done .executed; logged = done .logged; value = 0 }
 
 -- A labelled operation was executed and did not exit.
 unfoldable pub wentOn : (labelled : Bool) → (executed ending : ℕ) → Bool

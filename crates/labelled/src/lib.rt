@@ -15,7 +15,7 @@ ghost use Rattle.machine.specs.Calls.{outcomeOf, labelledOutcome};
 ghost use Rattle.machine.specs.Conditions.{leaks, labelsAfter};
 ghost use Rattle.plan.specs.Valid.{Valid};
 ghost use Rattle.execution.specs.Loops.{position};
-ghost use Rattle.labelled.specs.Turns.{Fitting, turnOf, leakReport, wentOn, pointerLogged, Markable};
+ghost use Rattle.labelled.specs.Turns.{Fitting, turnOf, wentOn, pointerLogged, Markable};
 use execution::report;
 use execution::run_from;
 use integer::boolean::both;
@@ -164,17 +164,10 @@ fn step_at(
         i,
         most,
     );
-    let done = run_from(
-        settings,
-        list,
-        unique,
-        register,
-        ram,
-        log,
-        i,
-        k,
-        unless(leak, most),
-    );
+    if leak {
+        return report(31, i, 0, k, 0);
+    }
+    let done = run_from(settings, list, unique, register, ram, log, i, k, most);
     let went = went_on(labelled, done.executed, done.ending);
     mark_after(
         went,
@@ -186,16 +179,16 @@ fn step_at(
         i,
         k,
     );
-    answer(leak, done)
+    done
 }
 
 // LEAK at operation i, where a labelled turn has an operation to run.
-fn leaks_within(
+fn leaks_within<'a>(
     labelled: bool,
     list: &[u64],
-    unique: &[u8],
-    register: &[u8],
-    ram: &[u8],
+    unique: &'a [u8],
+    register: &'a [u8],
+    ram: &'a [u8],
     i: usize,
     most: u64,
 ) -> bool
@@ -208,13 +201,6 @@ fn leaks_within(
         return leaks_at(list, unique, register, ram, i);
     }
     false
-}
-
-// What a turn may execute: nothing at LEAK.
-fn unless(leak: bool, most: u64) -> u64
-    ensures { λ r. ⌜ r ≡ cond leak 0 most ⌝ }
-{
-    if leak { 0 } else { most }
 }
 
 // A labelled operation was executed, and the run did not exit by it.
@@ -261,20 +247,4 @@ fn pointer_at(list: &[u64], log: &[u64], i: usize, k: usize) -> u64
         return log[k] % 4294967296;
     }
     0
-}
-
-// What a turn reports: LEAK, or what the operations did.
-fn answer(leak: bool, done: Report) -> Report
-    ensures { λ r. ⌜ r ≡ cond leak (leakReport done) done ⌝ }
-{
-    if leak {
-        return Report {
-            ending: 31,
-            index: done.index,
-            executed: done.executed,
-            logged: done.logged,
-            value: 0,
-        };
-    }
-    done
 }

@@ -1,8 +1,8 @@
 -- A varnode in the space n, 2 to 4, and a varnode in none of them.
 use Prim.Native.Nat.{ℕ, zero, suc, _+_, _≤_}
-use mathlib.Core.Path.{_≡_, refl, subst}
+use mathlib.Core.Path.{_≡_, refl, sym, subst}
 use mathlib.Core.Logic.{_⊎_, inl, inr, ⊎-elim}
-use mathlib.Core.Bool.{false}
+use mathlib.Core.Bool.{Bool, false}
 use mathlib.Core.List.{List}
 use native.Mathlib.Omega.{arith}
 use borrow.Author.Tests.{eq-eqb, ne-eqb}
@@ -36,6 +36,15 @@ module _ (m : Memory) (v : Varnode) (n : ℕ) (e : v .space ≡ n) where
   pub written-in : (after bs : List ℕ) → after ≡ sets (spaceOf m n) (v .offset) bs → withSpace m n after ≡ written m v bs
   unfolding written
   written-in after bs h = rw (e, h)
+
+-- for a list that is the varnode's space: where its bytes lie there, and what they are worth
+module _ (m : Memory) (v : Varnode) (h : 2 ≤ v .space) (bytes : List ℕ) (e : bytes ≡ spaceOf m (v .space)) where
+  pub may-gather : Placed m v → (v .size ≤ 8) × (v .offset + v .size ≤ length bytes)
+  may-gather p = (p .size, rw e (p .within h))
+
+  pub value-gathered : (settings : Settings) (big : Bool) → bigEndian settings ≡ big
+      → valueOf big (part bytes (v .offset) (v .size)) ≡ valueAt settings m v
+  value-gathered settings big b = rw (e, ← b) (sym (value-in m v (v .space) refl h settings))
 
 -- ---- in none of the three spaces: a constant, or absent
 

@@ -1,5 +1,6 @@
 -- An operation by its opcode: what holds of the opcodes of a class holds of every operation whose opcode is one of them.
-use Prim.Native.Nat.{ℕ}
+use Prim.Native.Nat.{ℕ, _≤_}
+use native.Mathlib.Omega.{arith}
 use mathlib.Core.Path.{_≡_, refl, sym, ap, subst, _∙_}
 use mathlib.Core.Bool.{Bool, true, false, _||_, true≢false}
 use mathlib.Core.List.{[], _∷_}
@@ -50,6 +51,23 @@ unfolding jumps among
 each-jump P p6 p8 p9 n j =
     when n 6 (λ e. subst P (sym e) p6) (λ n6. when n 8 (λ e. subst P (sym e) p8) (λ n8. when n 9 (λ e. subst P (sym e) p9) (λ n9.
     absurd (true≢false (sym (rw (n6, n8, n9) at j))))))
+
+pub access-no-branch : (n : ℕ) → accesses n ≡ true → branches n ≡ false
+unfolding branches among
+access-no-branch n a = each-access (λ k. branches k ≡ false) refl refl n a
+
+-- from 10 on there is none of them
+pub late-no-access : (n : ℕ) → 10 ≤ n → accesses n ≡ false
+unfolding accesses among
+late-no-access n l = rw (ne-eqb n 2 (λ e. omega arith), ne-eqb n 3 (λ e. omega arith)) refl
+
+pub late-no-branch : (n : ℕ) → 10 ≤ n → branches n ≡ false
+unfolding branches among
+late-no-branch n l = rw (ne-eqb n 4 (λ e. omega arith), ne-eqb n 5 (λ e. omega arith), ne-eqb n 7 (λ e. omega arith)) refl
+
+pub late-no-jump : (n : ℕ) → 10 ≤ n → jumps n ≡ false
+unfolding jumps among
+late-no-jump n l = rw (ne-eqb n 6 (λ e. omega arith), ne-eqb n 8 (λ e. omega arith), ne-eqb n 9 (λ e. omega arith)) refl
 
 module _ (P : Operation → Type 0) (op : Operation) where
   abbrev With : Varnode → ℕ → Type 0

@@ -27,7 +27,7 @@ use Rattle.machine.proofs.Cases.{either}
 use Rattle.memory.specs.Placed.{Placed}
 use Rattle.plan.specs.Valid.{Valid}
 use Rattle.plan.specs.Plans.{Movable, Branching, Computable}
-use Rattle.plan.proofs.Opcodes.{each-access, each-branch, no-branch}
+use Rattle.plan.proofs.Opcodes.{each-branch, access-no-branch, no-branch}
 
 -- a list is valid by the lengths of the spaces alone
 pub valid-with : {a b : Lengths} {list : List ℕ} → a ≡ b → Valid b list → Valid a list
@@ -55,10 +55,6 @@ five n l n1 n2 n3 n4 = omega arith
 ten-from : (n : ℕ) → 5 ≤ n → (n ≡ 5 → ⊥) → (n ≡ 6 → ⊥) → (n ≡ 7 → ⊥) → (n ≡ 8 → ⊥) → (n ≡ 9 → ⊥) → 10 ≤ n
 ten-from n l n5 n6 n7 n8 n9 = omega arith
 
-accesses-no-branch : (n : ℕ) → accesses n ≡ true → branches n ≡ false
-unfolding accesses branches among
-accesses-no-branch n a = each-access (λ k. branches k ≡ false) refl refl n a
-
 module _ (m : Memory) (addressSize : ℕ) (list : List ℕ) (i : ℕ) (w : WellFormed addressSize (lengthsOf m) list i) where
   pub placed : (place : ℕ) → place ≤ 3 → (place ≡ 1 → branches (opcodeAt list i) ≡ false) → Placed m (varnodeAt list i place)
   unfolding absent
@@ -81,7 +77,7 @@ module _ (m : Memory) (addressSize : ℕ) (list : List ℕ) (i : ℕ) (w : WellF
   pub movable : accesses (opcodeAt list i) ≡ true → Movable m (operationAt list i)
   unfolding operationAt breaksPlace namesSpace
   movable a =
-      let f = accesses-no-branch (opcodeAt list i) a in
+      let f = access-no-branch (opcodeAt list i) a in
       let p = w .placed 1 (omega arith) in
       let q : not (namesSpace (varnodeAt list i 1)) ≡ false = rw a at p in
       let n = both (eqb (varnodeAt list i 1 .space) 1 && leb 2 (varnodeAt list i 1 .offset)) (leb (varnodeAt list i 1 .offset) 4) (not-false _ q) in
@@ -118,6 +114,7 @@ module _ (m : Memory) (addressSize : ℕ) (list : List ℕ) (i : ℕ) (w : WellF
       → (a b : ℕ) → a ≡ valueAt settings m (varnodeAt list i 1) → b ≡ valueAt settings m (varnodeAt list i 2) → Computable (operationAt list i) a b
   unfolding operationAt
   computable settings words bytes small na nb a b ea eb = record {
+    known = w .opcode .0;
     noAccess = na;
     noBranch = nb;
     operands = λ j n1 d.

@@ -21,7 +21,7 @@ use Rattle.memory.specs.Placed.{Placed}
 use Rattle.plan.specs.declared.Plan.{Plan}
 use Rattle.plan.specs.Plans.{unwritten, stopPlan, lowDue, exitPlan, nextPlan, planned, movePlan, branchPlan, dataPlan, Movable, Branching, Computable}
 use Rattle.plan.proofs.Places.{space-length}
-use Rattle.plan.proofs.Opcodes.{divides-among, by-access, by-jump, by-branch, no-access, no-branch, no-jump}
+use Rattle.plan.proofs.Opcodes.{divides-among, by-access, by-jump, by-branch, no-access, no-branch, no-jump, late-no-jump}
 
 -- ---- BRANCH, CALL and CBRANCH
 
@@ -150,43 +150,71 @@ module _ (op : Operation) (i b n : ℕ) (v0 : Varnode) (en : n ≡ op .opcode) (
         let stays : eqb (op .input0 .space) 4 ≡ false = rw (← e0) (ne-eqb (v0 .space) 4 k) in
         e ∙ rw (en′, el, en, e0) (follows i b op h (untaken f) stays (h .relative ∙ rw stays refl))
 
-module _ (op : Operation) (a b n : ℕ) (en : n ≡ op .opcode) (h : Computable op a b) (j : Bool) (ej : j ≡ jumps n) where
-  jumping : {t : Bool} → j ≡ t → jumps (op .opcode) ≡ t
-  jumping k = rw (← en) (sym ej ∙ k)
+-- an opcode below 10 that is none of 2 to 9
+below-four : (n : ℕ) → n < 10 → (n ≡ 4 → ⊥) → (n ≡ 5 → ⊥) → (n ≡ 6 → ⊥) → (n ≡ 7 → ⊥) → (n ≡ 8 → ⊥) → (n ≡ 9 → ⊥) → n < 4
+below-four n l n4 n5 n6 n7 n8 n9 = omega arith
 
-  pub code-jumps : (i : ℕ) (r : Plan) → j ≡ true → r ≡ unwritten 1 i false 0 a → r ≡ dataPlan op i a b
-  code-jumps i r k e = e ∙ jumped i a b op h (jumping k)
+one-left : (n : ℕ) → 1 ≤ n → n < 4 → (n ≡ 2 → ⊥) → (n ≡ 3 → ⊥) → n ≡ 1
+one-left n k l n2 n3 = omega arith
 
-  module _ (f : j ≡ false) (d z : Bool) (ed : d ≡ divides n) (ez : z ≡ d && eqb b 0) where
+module _ (op : Operation) (a b n : ℕ) (en : n ≡ op .opcode) (h : Computable op a b) where
+  written-as : jumps (op .opcode) ≡ false → divides (op .opcode) && eqb b 0 ≡ false → (i : ℕ) (r : Plan) (x : ℕ) (out : Varnode) → out ≡ op .output
+      → valueComputed op a b ≡ x → r ≡ record { stop = 0; next = i + 1; due = false; low = 0; target = out; value = x } → r ≡ dataPlan op i a b
+  written-as nj nz i r x out eo ex e = e ∙ rw (eo, ← ex, add-one) (computed i a b op h nj nz)
+
+  -- the opcodes below 10: an exit, or COPY
+  module _ (j : Bool) (ej : j ≡ jumps n) where
+    jumping : {t : Bool} → j ≡ t → jumps (op .opcode) ≡ t
+    jumping k = rw (← en) (sym ej ∙ k)
+
+    pub code-jumps : (i : ℕ) (r : Plan) → j ≡ true → r ≡ unwritten 1 i false 0 a → r ≡ dataPlan op i a b
+    code-jumps i r k e = e ∙ jumped i a b op h (jumping k)
+
+    copy : n < 10 → j ≡ false → op .opcode ≡ 1
+    copy l f =
+        let k = op .opcode in
+        let na = no-access k (h .noAccess) in
+        let nb = no-branch k (h .noBranch) in
+        let nj = no-jump k (jumping f) in
+        one-left k (h .known)
+        (below-four k (rw (← en) l) (eqb-false k 4 (nb .n4)) (eqb-false k 5 (nb .n5)) (eqb-false k 6 (nj .n6)) (eqb-false k 7 (nb .n7)) (eqb-false k 8 (nj .n8)) (eqb-false k 9 (nj .n9)))
+        (eqb-false k 2 (na .n2)) (eqb-false k 3 (na .n3))
+
+    pub code-copies : n < 10 → j ≡ false → (i : ℕ) (r : Plan) (out : Varnode) → out ≡ op .output
+        → r ≡ record { stop = 0; next = i + 1; due = false; low = 0; target = out; value = a } → r ≡ dataPlan op i a b
+    unfolding valueComputed divides
+    code-copies l f i r out eo e =
+        let k = copy l f in
+        written-as (jumping f) (rw k refl) i r a out eo (rw (eq-eqb (op .opcode) 1 k) refl) e
+
+  -- the others
+  module _ (l : 10 ≤ n) (d z : Bool) (ed : d ≡ divides n) (ez : z ≡ d && eqb b 0) where
     dividing : {t : Bool} → z ≡ t → divides (op .opcode) && eqb b 0 ≡ t
     dividing k = rw (← en, ← ed) (sym ez ∙ k)
 
     pub code-by-zero : (i : ℕ) (r : Plan) → z ≡ true → r ≡ unwritten 33 i false 0 0 → r ≡ dataPlan op i a b
     code-by-zero i r k e = e ∙ by-zero i a b op h (dividing k)
 
-    module _ (g : z ≡ false) (out : Varnode) (eo : out ≡ op .output) where
-      written-as : (i : ℕ) (r : Plan) (x : ℕ) → valueComputed op a b ≡ x → r ≡ record { stop = 0; next = i + 1; due = false; low = 0; target = out; value = x } → r ≡ dataPlan op i a b
-      written-as i r x ex e = e ∙ rw (eo, ← ex, add-one) (computed i a b op h (jumping f) (dividing g))
+    module _ (g : z ≡ false) (out v0 v1 : Varnode) (eo : out ≡ op .output) (e0 : v0 ≡ op .input0) (e1 : v1 ≡ op .input1) where
+      no-jumping : jumps (op .opcode) ≡ false
+      no-jumping = rw (← en) (late-no-jump n l)
 
-      pub code-copies : (i : ℕ) (r : Plan) → n ≡ 1 → r ≡ record { stop = 0; next = i + 1; due = false; low = 0; target = out; value = a } → r ≡ dataPlan op i a b
+      no-copy : op .opcode ≡ 1 → ⊥
+      no-copy e = omega arith
+
+      -- the arithmetic may be asked
+      pub may-compute : Operands n (out .size) (v0 .size) (v1 .size) a b
+      may-compute = rw (en, eo, e0, e1) (h .operands no-jumping no-copy (λ q. positive (eqb b 0) refl q))
+        where
+          positive : (t : Bool) → eqb b 0 ≡ t → divides (op .opcode) ≡ true → 0 < b
+          positive true e q = absurd (true≢false (sym (rw (q, e) refl) ∙ dividing g))
+          positive false e q = let p : b ≡ 0 → ⊥ = eqb-false b 0 e in omega arith
+
+      pub code-computes : (i : ℕ) (r : Plan) (x : ℕ) → x ≡ result n (out .size) (v0 .size) (v1 .size) a b
+          → r ≡ record { stop = 0; next = i + 1; due = false; low = 0; target = out; value = x } → r ≡ dataPlan op i a b
       unfolding valueComputed
-      code-copies i r k e = let copy : eqb (op .opcode) 1 ≡ true = rw (← en) (eq-eqb n 1 k) in written-as i r a (rw copy refl) e
-
-      module _ (k : n ≡ 1 → ⊥) (v0 v1 : Varnode) (e0 : v0 ≡ op .input0) (e1 : v1 ≡ op .input1) where
-        -- the arithmetic may be asked
-        pub may-compute : Operands n (out .size) (v0 .size) (v1 .size) a b
-        may-compute = rw (en, eo, e0, e1) (h .operands (jumping f) (λ e. k (en ∙ e)) (λ q. positive (eqb b 0) refl q))
-          where
-            positive : (t : Bool) → eqb b 0 ≡ t → divides (op .opcode) ≡ true → 0 < b
-            positive true e q = absurd (true≢false (sym (rw (q, e) refl) ∙ dividing g))
-            positive false e q = let p : b ≡ 0 → ⊥ = eqb-false b 0 e in omega arith
-
-        pub code-computes : (i : ℕ) (r : Plan) (x : ℕ) → x ≡ result n (out .size) (v0 .size) (v1 .size) a b
-            → r ≡ record { stop = 0; next = i + 1; due = false; low = 0; target = out; value = x } → r ≡ dataPlan op i a b
-        unfolding valueComputed
-        code-computes i r x ex e =
-            let other : eqb (op .opcode) 1 ≡ false = rw (← en) (ne-eqb n 1 k) in
-            written-as i r x (rw other (sym (ex ∙ rw (en, eo, e0, e1) refl))) e
+      code-computes i r x ex e =
+          written-as no-jumping (dividing g) i r x out eo (rw (ne-eqb (op .opcode) 1 no-copy) (sym (ex ∙ rw (en, eo, e0, e1) refl))) e
 
 module _ (m : Memory) (op : Operation) (b n : ℕ) (output input0 input2 sized : Varnode) (en : n ≡ op .opcode) (eo : output ≡ op .output)
     (e0 : input0 ≡ op .input0) (e2 : input2 ≡ op .input2) (es : sized ≡ cond (eqb n 2) output input2) (h : Movable m op)

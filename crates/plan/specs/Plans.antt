@@ -70,6 +70,7 @@ pub record Branching (op : Operation) : Type 0 where
 
 -- The arithmetic may be asked for the value of an operation other than COPY and the exits, with a divisor that is not 0.
 pub record Computable (op : Operation) (a b : ℕ) : Type 0 where
+  pub known : 1 ≤ op .opcode
   pub noAccess : accesses (op .opcode) ≡ false
   pub noBranch : branches (op .opcode) ≡ false
   pub operands : jumps (op .opcode) ≡ false → (op .opcode ≡ 1 → ⊥) → (divides (op .opcode) ≡ true → 0 < b)

@@ -2,8 +2,10 @@
 ghost use mathlib.Core.Path.{_≡_};
 ghost use Prim.Native.Nat.{_+_, _*_, _≤_, _<_};
 ghost use mathlib.Core.Bool.{cond};
+ghost use lib.Dec.{eqb};
 ghost use lib.ListN.{length};
 ghost use Rattle.operation.specs.Layout.{wordsPerOperation, operationCount};
+ghost use Rattle.operation.specs.Rules.{accesses, branches};
 ghost use Rattle.machine.specs.Program.{programOf};
 ghost use Rattle.machine.specs.Memory.{spaces, lengthsOf, valueAt};
 ghost use Rattle.machine.specs.Effect.{operationAt};
@@ -13,7 +15,9 @@ use arithmetic::operands::is_division;
 use arithmetic::value;
 use integer::boolean::both;
 use integer::boolean::flag;
-use memory::varnode::read;
+use memory::varnode::read_input0;
+use memory::varnode::read_input1;
+use memory::varnode::read_moved;
 use operation::layout::Lengths;
 use operation::layout::Settings;
 use operation::layout::Varnode;
@@ -89,21 +93,22 @@ fn branch_at(list: &[u64], i: usize, condition: u64) -> Plan
     unwritten(0, next as usize, conditional, low, 0)
 }
 
-// All operations but LOAD, STORE, BRANCH, CBRANCH and CALL, on the values a of input0 and b of input1.
+// All operations but LOAD, STORE, BRANCH, CBRANCH and CALL, on the values a of input0 and b of input1. The first test tells most
+// operations from COPY and the exits.
 fn data_at(list: &[u64], i: usize, a: u64, b: u64) -> Plan
     requires { ⌜ (wordsPerOperation * i + wordsPerOperation ≤ length (now list)) × (i < 4096) × Computable (operationAt (now list) i) a b ⌝ }
     ensures { λ r. ⌜ r ≡ dataPlan (operationAt (now (list .entry)) i) i a b ⌝ }
 {
     let opcode = opcode_at(list, i);
-    if jumps(opcode) {
-        return unwritten(1, i, false, 0, a);
+    let output = varnode_at(list, i, 0);
+    if opcode < 10 {
+        if jumps(opcode) {
+            return unwritten(1, i, false, 0, a);
+        }
+        return writes(i, false, 0, output, a);
     }
     if both(is_division(opcode), b == 0) {
         return unwritten(33, i, false, 0, 0);
-    }
-    let output = varnode_at(list, i, 0);
-    if opcode == 1 {
-        return writes(i, false, 0, output, a);
     }
     let input0 = varnode_at(list, i, 1);
     let input1 = varnode_at(list, i, 2);
@@ -152,7 +157,7 @@ fn move_at<'a>(
         return unwritten(32, i, false, 0, 0);
     }
     let from = choose(loads, there, input2);
-    let x = read(settings, unique, register, ram, from);
+    let x = read_moved(settings, unique, register, ram, from);
     let to = choose(loads, output, there);
     writes(i, true, pointer, to, x)
 }
@@ -174,14 +179,31 @@ pub fn plan_at<'a>(
 {
     let opcode = opcode_at(list, i);
     let input1 = varnode_at(list, i, 2);
-    let b = read(settings, unique, register, ram, input1);
-    if accesses(opcode) {
+    let b = read_input1(settings, unique, register, ram, input1);
+    let class = class_of(opcode);
+    if class == 1 {
         return move_at(settings, list, unique, register, ram, i, b);
     }
-    if branches(opcode) {
+    if class == 2 {
         return branch_at(list, i, b);
     }
     let input0 = varnode_at(list, i, 1);
-    let a = read(settings, unique, register, ram, input0);
+    let a = read_input0(settings, unique, register, ram, input0);
     data_at(list, i, a, b)
+}
+
+// 1 for LOAD and STORE, 2 for BRANCH, CBRANCH and CALL, 0 for all others: one test tells most of them.
+fn class_of(opcode: u64) -> u64
+    ensures { λ r. ⌜ (eqb r 1 ≡ accesses opcode) × (eqb r 2 ≡ branches opcode) ⌝ }
+{
+    if 9 < opcode {
+        return 0;
+    }
+    if accesses(opcode) {
+        return 1;
+    }
+    if branches(opcode) {
+        return 2;
+    }
+    0
 }

@@ -1,11 +1,12 @@
 -- What the code looks at in the labels is what the exact conditions say.
 use Prim.Native.Nat.{ℕ, _≤_, _<_}
 use native.Mathlib.Omega.{arith}
-use mathlib.Core.Path.{_≡_, refl, sym}
-use mathlib.Core.Bool.{Bool, true, false, cond, _&&_, _||_}
+use mathlib.Core.Path.{_≡_, refl, sym, _∙_}
+use mathlib.Core.Bool.{Bool, true, false, cond, _&&_, _||_, true≢false}
 use mathlib.Core.List.{List}
+use borrow.Author.Tests.{eqb-true, ne-eqb, lt-leb}
 use lib.Dec.{eqb}
-use Rattle.integer.proofs.Booleans.{or-false}
+use Rattle.integer.proofs.Booleans.{or-false, neither}
 use Rattle.arithmetic.specs.Operands.{among, divides}
 use Rattle.operation.specs.declared.layout.Varnode.{Varnode}
 use Rattle.operation.specs.Layout.{operationCount, opcodeAt, varnodeAt}
@@ -17,51 +18,95 @@ use Rattle.machine.proofs.Conditions.{absent-public}
 use Rattle.memory.specs.Placed.{Placed}
 use Rattle.plan.specs.Valid.{Valid}
 use Rattle.plan.proofs.Bounds.{nowhere, when-true}
-use Rattle.plan.proofs.Opcodes.{divides-among, each-jump}
+use Rattle.plan.proofs.Opcodes.{divides-among, each-access, each-jump, late-no-access, late-no-jump}
 use Rattle.plan.proofs.Places.{placed}
 
--- ---- LEAK: by input0, or by input1
+-- ---- opcodes of one class are of no other
 
--- p, c and d look at input1, j at input0
-by-input : (p c j d s0 s1 : Bool) → (p && s1) || (c && s1) || (j && s0) || (d && s1) ≡ cond j s0 false || cond (p || (c || d)) s1 false
-by-input true c true d true true = refl
-by-input true c true d false true = refl
-by-input true c false d s0 true = refl
-by-input false true true d true true = refl
-by-input false true true d false true = refl
-by-input false true false d s0 true = refl
-by-input false false true d true true = refl
-by-input false false true true false true = refl
-by-input false false true false false true = refl
-by-input false false false true s0 true = refl
-by-input false false false false s0 true = refl
-by-input p c j d s0 false =
-    rw (none p, none c, none d, or-false (j && s0), guarded (p || (c || d))) (by j s0)
+access-no-jump : (n : ℕ) → accesses n ≡ true → jumps n ≡ false
+unfolding jumps among
+access-no-jump n a = each-access (λ k. jumps k ≡ false) refl refl n a
+
+condition-no-jump : (n : ℕ) → eqb n 5 ≡ true → jumps n ≡ false
+unfolding jumps among
+condition-no-jump n e = rw (eqb-true n 5 e) refl
+
+jump-no-access : (n : ℕ) → jumps n ≡ true → accesses n ≡ false
+unfolding accesses among
+jump-no-access n j = each-jump (λ k. accesses k ≡ false) refl refl refl n j
+
+jump-no-branch : (n : ℕ) → jumps n ≡ true → branches n ≡ false
+unfolding branches among
+jump-no-branch n j = each-jump (λ k. branches k ≡ false) refl refl refl n j
+
+jump-no-condition : (n : ℕ) → jumps n ≡ true → eqb n 5 ≡ false
+jump-no-condition n j = each-jump (λ k. eqb k 5 ≡ false) refl refl refl n j
+
+early-no-division : (n : ℕ) → n < 10 → divides n ≡ false
+unfolding divides
+early-no-division n l = rw (lt-leb 35 n (omega arith)) refl
+
+jump-no-division : (n : ℕ) → jumps n ≡ true → divides n ≡ false
+unfolding divides
+jump-no-division n j = each-jump (λ k. divides k ≡ false) refl refl refl n j
+
+-- ---- LEAK: the varnode that must be public, by the opcode
+
+abbrev pub guarded : (opcode : ℕ) (input0 input1 : Varnode) → Varnode
+guarded n v0 v1 = cond (jumps n) v0 (cond (accesses n || (eqb n 5 || divides n)) v1 absent)
+
+module _ (n : ℕ) (v0 v1 : Varnode) where
+  pub guarded-late : 10 ≤ n → guarded n v0 v1 ≡ cond (divides n) v1 absent
+  guarded-late l = rw (late-no-jump n l, late-no-access n l, ne-eqb n 5 (λ e. omega arith)) refl
+
+  pub guarded-tested : accesses n || eqb n 5 ≡ true → guarded n v0 v1 ≡ v1
+  guarded-tested h = by (accesses n) refl (eqb n 5) refl
+    where
+      by : (p : Bool) → accesses n ≡ p → (c : Bool) → eqb n 5 ≡ c → guarded n v0 v1 ≡ v1
+      by true e c f = rw (access-no-jump n e, e) refl
+      by false e true f = rw (condition-no-jump n f, e, f) refl
+      by false e false f = absurd (true≢false (sym h ∙ rw (e, f) refl))
+
+  pub guarded-none : n < 10 → accesses n || eqb n 5 ≡ false → jumps n ≡ false → guarded n v0 v1 ≡ absent
+  guarded-none l h j =
+      let e = neither (accesses n) (eqb n 5) h in
+      rw (j, e .0, e .1, early-no-division n l) refl
+
+-- p, c and d look at the label s
+by-one : (p c d s : Bool) → (p && s) || (c && s) || false || (d && s) ≡ cond (p || (c || d)) s false
+by-one true c d true = refl
+by-one false true d true = refl
+by-one false false true true = refl
+by-one false false false true = refl
+by-one p c d false = rw (none p, none c, none d, either-way (p || (c || d))) refl
   where
     none : (t : Bool) → t && false ≡ false
     none true = refl
     none false = refl
 
-    guarded : (t : Bool) → cond t false false ≡ false
-    guarded true = refl
-    guarded false = refl
+    either-way : (t : Bool) → cond t false false ≡ false
+    either-way true = refl
+    either-way false = refl
 
-    by : (j s : Bool) → j && s ≡ cond j s false || false
-    by true true = refl
-    by true false = refl
-    by false s = refl
-
-pub leaks-by-input : (labels : Memory) (op : Operation) → leaks labels op
-    ≡ hasSecret labels (cond (jumps (op .opcode)) (op .input0) absent)
-    || hasSecret labels (cond (accesses (op .opcode) || (eqb (op .opcode) 5 || divides (op .opcode))) (op .input1) absent)
+pub leaks-guarded : (labels : Memory) (op : Operation) → leaks labels op ≡ hasSecret labels (guarded (op .opcode) (op .input0) (op .input1))
 unfolding leaks accesses jumps
-leaks-by-input labels op =
-    rw (← divides-among (op .opcode), guarded (jumps (op .opcode)) (op .input0), guarded (accesses (op .opcode) || (eqb (op .opcode) 5 || divides (op .opcode))) (op .input1))
-    (by-input (accesses (op .opcode)) (eqb (op .opcode) 5) (jumps (op .opcode)) (divides (op .opcode)) (hasSecret labels (op .input0)) (hasSecret labels (op .input1)))
+leaks-guarded labels op = rw (← divides-among n) (by (jumps n) refl)
   where
-    guarded : (t : Bool) (v : Varnode) → hasSecret labels (cond t v absent) ≡ cond t (hasSecret labels v) false
-    guarded true v = refl
-    guarded false v = absent-public labels absent refl
+    n : ℕ
+    n = op .opcode
+
+    Told : Type 0
+    Told =
+        (accesses n && hasSecret labels (op .input1)) || (eqb n 5 && hasSecret labels (op .input1)) || (jumps n && hasSecret labels (op .input0))
+        || (divides n && hasSecret labels (op .input1)) ≡ hasSecret labels (guarded n (op .input0) (op .input1))
+
+    tested : (t : Bool) → hasSecret labels (cond t (op .input1) absent) ≡ cond t (hasSecret labels (op .input1)) false
+    tested true = refl
+    tested false = absent-public labels absent refl
+
+    by : (j : Bool) → jumps n ≡ j → Told
+    by true e = rw (jump-no-access n e, jump-no-condition n e, jump-no-division n e, e) (or-false (hasSecret labels (op .input0)))
+    by false e = rw (e, tested (accesses n || (eqb n 5 || divides n))) (by-one (accesses n) (eqb n 5) (divides n) (hasSecret labels (op .input1)))
 
 -- ---- what is written to, and whether it becomes secret
 
@@ -91,17 +136,12 @@ module _ (labels : Memory) (op : Operation) (b : ℕ) where
 
 -- ---- where the code may look
 
-jumps-no-branch : (n : ℕ) → jumps n ≡ true → branches n ≡ false
-unfolding jumps branches among
-jumps-no-branch n j = each-jump (λ k. branches k ≡ false) refl refl refl n j
-
 module _ (labels : Memory) (list : List ℕ) (v : Valid (lengthsOf labels) list) (i : ℕ) (h : i < operationCount list) where
   pub place : (k : ℕ) → k ≤ 3 → (k ≡ 1 → branches (opcodeAt list i) ≡ false) → Placed labels (varnodeAt list i k)
   place k l exempt = placed labels (v .addressSize) list i (v .operations i h) k l exempt
 
-  pub place-input0 : Placed labels (cond (jumps (opcodeAt list i)) (varnodeAt list i 1) absent)
-  place-input0 =
-      when-true (Placed labels) (jumps (opcodeAt list i)) _ _ (λ j. place 1 (omega arith) (λ z. jumps-no-branch (opcodeAt list i) j)) (λ j. nowhere labels)
-
-  pub place-input1 : (t : Bool) → Placed labels (cond t (varnodeAt list i 2) absent)
-  place-input1 t = when-true (Placed labels) t _ _ (λ k. place 2 (omega arith) (λ z. absurd (let y : ⊥ = omega arith in y))) (λ k. nowhere labels)
+  pub place-guarded : Placed labels (guarded (opcodeAt list i) (varnodeAt list i 1) (varnodeAt list i 2))
+  place-guarded =
+      when-true (Placed labels) (jumps (opcodeAt list i)) _ _ (λ j. place 1 (omega arith) (λ z. jump-no-branch (opcodeAt list i) j))
+      (λ j. when-true (Placed labels) (accesses (opcodeAt list i) || (eqb (opcodeAt list i) 5 || divides (opcodeAt list i))) _ _
+      (λ k. place 2 (omega arith) (λ z. absurd (let y : ⊥ = omega arith in y))) (λ k. nowhere labels))

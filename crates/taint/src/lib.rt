@@ -1,9 +1,12 @@
 // What an operation must find public, and what becomes secret by it.
 ghost use mathlib.Core.Path.{_≡_};
-ghost use mathlib.Core.Bool.{cond};
+ghost use mathlib.Core.Bool.{cond, _||_};
 ghost use Prim.Native.Nat.{_+_, _*_, _≤_, _<_};
+ghost use lib.Dec.{eqb};
 ghost use lib.ListN.{length};
-ghost use Rattle.operation.specs.Layout.{wordsPerOperation, mostInputs, operationCount, varnodeAt};
+ghost use Rattle.arithmetic.specs.Operands.{divides};
+ghost use Rattle.operation.specs.Layout.{wordsPerOperation, operationCount, opcodeAt, varnodeAt};
+ghost use Rattle.operation.specs.Rules.{accesses, jumps};
 ghost use Rattle.machine.specs.Memory.{spaces, lengthsOf};
 ghost use Rattle.machine.specs.Effect.{operationAt, absent, pointed};
 ghost use Rattle.machine.specs.Conditions.{leaks, destinationBytes, becomesSecret};
@@ -18,28 +21,47 @@ use operation::layout::varnode_at;
 use operation::rules::accesses;
 use operation::rules::jumps;
 
-// LEAK: a byte that must be public is secret. It may be one of input0 or of input1.
-pub fn leaks_at(list: &[u64], unique: &[u8], register: &[u8], ram: &[u8], i: usize) -> bool
+// LEAK: a byte that must be public is secret.
+pub fn leaks_at<'a>(
+    list: &[u64],
+    unique: &'a [u8],
+    register: &'a [u8],
+    ram: &'a [u8],
+    i: usize,
+) -> bool
     requires { ⌜ Valid (lengthsOf (spaces (now unique) (now register) (now ram))) (now list) × (i < operationCount (now list)) ⌝ }
     ensures { λ r. ⌜ r ≡ leaks (spaces (now (unique .entry)) (now (register .entry)) (now (ram .entry))) (operationAt (now (list .entry)) i) ⌝ }
 {
-    let opcode = opcode_at(list, i);
-    let leaves = jumps(opcode);
-    let tests = either(accesses(opcode), either(opcode == 5, is_division(opcode)));
-    let input0 = guarded_at(list, i, 1, leaves);
-    let input1 = guarded_at(list, i, 2, tests);
-    let first = has_secret(unique, register, ram, input0);
-    either(first, has_secret(unique, register, ram, input1))
+    has_secret(unique, register, ram, guarded_at(list, i))
 }
 
-// The varnode at a place, if it must be public; else an absent one.
-fn guarded_at(list: &[u64], i: usize, place: u8, guarded: bool) -> Varnode
-    requires { ⌜ (wordsPerOperation * i + wordsPerOperation ≤ length (now list)) × (place ≤ mostInputs) ⌝ }
-    ensures { λ r. ⌜ r ≡ cond guarded (varnodeAt (now (list .entry)) i place) absent ⌝ }
+// The varnode that must be public: input0 of an exit, input1 of LOAD, STORE, CBRANCH and a division; else an absent one. The first test
+// tells most operations.
+fn guarded_at(list: &[u64], i: usize) -> Varnode
+    requires { ⌜ wordsPerOperation * i + wordsPerOperation ≤ length (now list) ⌝ }
+    ensures { λ r. ⌜ r ≡ cond (jumps (opcodeAt (now (list .entry)) i)) (varnodeAt (now (list .entry)) i 1)
+        (cond (accesses (opcodeAt (now (list .entry)) i) || (eqb (opcodeAt (now (list .entry)) i) 5 || divides (opcodeAt (now (list .entry)) i)))
+        (varnodeAt (now (list .entry)) i 2) absent) ⌝ }
 {
-    if guarded {
-        return varnode_at(list, i, place);
+    let opcode = opcode_at(list, i);
+    if 9 < opcode {
+        if is_division(opcode) {
+            return varnode_at(list, i, 2);
+        }
+        return absent();
     }
+    if either(accesses(opcode), opcode == 5) {
+        return varnode_at(list, i, 2);
+    }
+    if jumps(opcode) {
+        return varnode_at(list, i, 1);
+    }
+    absent()
+}
+
+fn absent() -> Varnode
+    ensures { λ r. ⌜ r ≡ absent ⌝ }
+{
     Varnode {
         space: 0,
         offset: 0,
@@ -73,11 +95,11 @@ pub fn target_at(list: &[u64], i: usize, pointer: u64) -> Varnode
 }
 
 // Whether what operation i writes becomes secret. A LOAD's own varnodes are public by now, so only the bytes loaded are looked at.
-pub fn becomes_secret(
+pub fn becomes_secret<'a>(
     list: &[u64],
-    unique: &[u8],
-    register: &[u8],
-    ram: &[u8],
+    unique: &'a [u8],
+    register: &'a [u8],
+    ram: &'a [u8],
     i: usize,
     pointer: u64,
 ) -> bool

@@ -3,15 +3,17 @@ use mathlib.Core.Path.{_≡_, refl, sym, ap, _∙_}
 use mathlib.Core.Bool.{Bool, true, false}
 use mathlib.Core.List.{List, [], _∷_}
 use Prim.Native.Nat.{ℕ, zero, suc, _+_, _-_, _*_, _/_, _%_, _^_, _≤_, _<_}
-use native.Mathlib.Nat.{lt-of-lt-of-le, mul-lt-mul-of-pos-right, pow-succ', mod-eq-of-lt}
+use native.Mathlib.Nat.{add-comm, mul-assoc, lt-of-lt-of-le, mul-lt-mul-of-pos-right, pow-succ', mod-eq-of-lt}
 use native.Mathlib.Omega.{arith}
 use borrow.Author.Tests.{ltb-true, ltb-false}
 use lib.Dec.{lit<, ltb}
+use lib.Pow.{pow-add}
+use lib.Bits.{bitOr, or-shifted, or-shifted-r}
 use lib.ListN.{length, getD, set, length-set}
 use lib.Seq.{sets, length-sets, getD-set-same, getD-set-other}
 use Rattle.word.specs.Sum.{sum, digit}
 use Rattle.word.specs.Word.{Bytes, part, significance, valueOf, bytesOf}
-use Rattle.word.proofs.Sums.{sum-cong, sum-mono, sum-reverse, tabulate-length, tabulate-at, tabulate-past, tabulate-is}
+use Rattle.word.proofs.Sums.{sum-cong, sum-mul, sum-reverse, tabulate-length, tabulate-at, tabulate-past, tabulate-is}
 use Rattle.word.proofs.Powers.{pow-bits, size-pos, size-most}
 use Rattle.word.proofs.Digits.{digit-lt, digits-lt, digits-sum, digit-of}
 
@@ -139,7 +141,11 @@ written-read big bs h =
     (significance big (length bs) i) (significance-lt big (length bs) i l)
     ∙ ap (λ (k : ℕ). getD bs k 0) (significance-twice big (length bs) i l)))
 
--- ---- what gather and scatter do in a turn
+-- ---- what gather and scatter do
+
+-- a size other than 8
+pub below-eight : (n : ℕ) → n ≤ 8 → (n ≡ 8 → ⊥) → n % 8 ≡ n
+below-eight n h d = mod-eq-of-lt (omega arith)
 
 -- a byte at its weight
 pub byte-fits : (b k : ℕ) → b < 256 → k < 8 → b * 256 ^ k < 2 ^ 64
@@ -161,20 +167,35 @@ module _ (big : Bool) (l : List ℕ) (at n : ℕ) where
   unfolding gathered sum
   gathered-none = refl
 
-  pub gathered-more : (i : ℕ) → gathered big l at n (suc i) ≡ gathered big l at n i + getD l (at + i) 0 * 256 ^ significance big n i
-  unfolding gathered sum
-  gathered-more i = refl
-
   pub gathered-all : gathered big l at n n ≡ valueOf big (part l at n)
   unfolding gathered
   gathered-all = sym (value-part big l at n)
 
-  pub gathered-fits : n ≤ 8 → Bytes l → (i : ℕ) → i ≤ n → gathered big l at n i < 2 ^ 64
-  unfolding gathered
-  gathered-fits h b i k =
-      let whole : valueOf big (part l at n) < 256 ^ length (part l at n) = value-lt big (part l at n) (part-bytes l at n b) in
-      let size : 256 ^ length (part l at n) ≤ 2 ^ 64 = rw (part-length l at n) (size-most n h) in
-      omega (arith, sum-mono i n (λ j. getD l (at + j) 0 * 256 ^ significance big n j) k, value-part big l at n)
+-- the bytes passed have no bit in common with the next byte at its weight: in little order they lie below it, in big order above
+pub gathered-or : (big : Bool) (l : List ℕ) (at n : ℕ) → Bytes l → (i : ℕ) → i < n
+    → bitOr (gathered big l at n i) (getD l (at + i) 0 * 256 ^ significance big n i) ≡ gathered big l at n (suc i)
+unfolding gathered significance sum
+gathered-or false l at n b i h =
+    let below : sum i (λ j. getD l (at + j) 0 * 256 ^ j) < 2 ^ (8 * i) =
+    rw (← (pow-bits i)) (digits-lt 256 (lit< tt) i (λ j. getD l (at + j) 0) (λ j k. b (at + j))) in
+    rw (pow-bits i)
+    (or-shifted-r (getD l (at + i) 0) (8 * i) (sum i (λ j. getD l (at + j) 0 * 256 ^ j)) below
+    ∙ add-comm (getD l (at + i) 0 * 2 ^ (8 * i)) (sum i (λ j. getD l (at + j) 0 * 256 ^ j)))
+gathered-or true l at n b i h =
+    let last = n - 1 - i in
+    let passed : ℕ = sum i (λ j. getD l (at + j) 0 * 256 ^ (i - 1 - j)) in
+    let term : (j : ℕ) → j < i → getD l (at + j) 0 * 256 ^ (n - 1 - j) ≡ getD l (at + j) 0 * 256 ^ (i - 1 - j) * 256 ^ suc last = λ j k.
+    let e : n - 1 - j ≡ i - 1 - j + suc last = omega arith in
+    ap (λ (x : ℕ). getD l (at + j) 0 * 256 ^ x) e
+    ∙ ap (λ (x : ℕ). getD l (at + j) 0 * x) (pow-add 256 (i - 1 - j) (suc last))
+    ∙ sym (mul-assoc (getD l (at + j) 0) (256 ^ (i - 1 - j)) (256 ^ suc last)) in
+    let above : sum i (λ j. getD l (at + j) 0 * 256 ^ (n - 1 - j)) ≡ passed * 2 ^ (8 * suc last) =
+    rw (← (pow-bits (suc last)))
+    (sum-cong i (λ j. getD l (at + j) 0 * 256 ^ (n - 1 - j)) (λ j. getD l (at + j) 0 * 256 ^ (i - 1 - j) * 256 ^ suc last) term
+    ∙ sum-mul i (λ j. getD l (at + j) 0 * 256 ^ (i - 1 - j)) (256 ^ suc last)) in
+    let small : getD l (at + i) 0 * 256 ^ last < 2 ^ (8 * suc last) =
+    rw (← (pow-bits (suc last)), pow-succ' 256 last) (mul-lt-mul-of-pos-right (b (at + i)) (size-pos last)) in
+    rw above (or-shifted passed (8 * suc last) (getD l (at + i) 0 * 256 ^ last) small)
 
 -- the byte that scatter writes at place i
 pub scattered : (big : Bool) (n v i : ℕ) → i < n → v / 2 ^ (8 * significance big n i) % 256 ≡ getD (bytesOf big n v) i 0

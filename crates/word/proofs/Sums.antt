@@ -1,9 +1,8 @@
 -- Laws of sums and tabulated lists. Assumes nothing.
 use mathlib.Core.Path.{_≡_, refl, sym, ap, ap₂, _∙_}
 use mathlib.Core.List.{List}
-use Prim.Native.Nat.{ℕ, zero, suc, _+_, _-_, _≤_, _<_}
-use native.Mathlib.Nat.{le-refl}
-use native.Mathlib.Decide.{le-ind}
+use Prim.Native.Nat.{ℕ, zero, suc, _+_, _-_, _*_, _≤_, _<_}
+use native.Mathlib.Nat.{zero-mul, add-mul}
 use native.Mathlib.Omega.{arith}
 use lib.ListN.{length, getD, List·getD-eq-default}
 use lib.Seq.{ext-getD}
@@ -20,9 +19,10 @@ sum-add zero f g = refl
 sum-add (suc n) f g = omega (arith, sum-add n f g)
 
 -- a shorter sum is no larger
-pub sum-mono : (n m : ℕ) (f : ℕ → ℕ) → n ≤ m → sum n f ≤ sum m f
+pub sum-mul : (n : ℕ) (f : ℕ → ℕ) (c : ℕ) → sum n (λ i. f i * c) ≡ sum n f * c
 unfolding sum
-sum-mono n m f h = le-ind (λ (k : ℕ). sum n f ≤ sum k f) (le-refl (sum n f)) (λ k l e. omega arith) m h
+sum-mul zero f c = sym (zero-mul c)
+sum-mul (suc n) f c = ap (λ (x : ℕ). x + f n * c) (sum-mul n f c) ∙ sym (add-mul (sum n f) (f n) c)
 
 sum-head : (n : ℕ) (f : ℕ → ℕ) → sum (suc n) f ≡ f 0 + sum n (λ i. f (suc i))
 unfolding sum

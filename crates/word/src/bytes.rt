@@ -5,8 +5,26 @@ ghost use lib.ListN.{length};
 ghost use lib.Seq.{sets};
 ghost use Rattle.word.specs.Word.{part, significance, valueOf, bytesOf};
 
-// The value of the `size` bytes at `at`.
+// The value of the `size` bytes at `at`. Where order and size are constants, the compiler makes one load of the walk: so the usual
+// sizes have calls of their own, and a caller in a hurry has one call for each order. The other sizes are below 8, which the
+// remainder tells the compiler: else it prepares the walk for long parts.
 pub fn gather(big: bool, s: &[u8], at: usize, size: usize) -> u64
+    requires { ⌜ (size ≤ 8) × (at + size ≤ length (now s)) ⌝ }
+    ensures { λ r. ⌜ r ≡ valueOf big (part (now (s .entry)) at size) ⌝ }
+{
+    if size == 4 {
+        gather_walk(big, s, at, 4)
+    } else if size == 8 {
+        gather_walk(big, s, at, 8)
+    } else if size == 1 {
+        gather_walk(big, s, at, 1)
+    } else {
+        gather_walk(big, s, at, size % 8)
+    }
+}
+
+// Each byte at its weight. The weights share no bit, so `|` adds; the compiler sees a load through it where it does not through `+`.
+fn gather_walk(big: bool, s: &[u8], at: usize, size: usize) -> u64
     requires { ⌜ (size ≤ 8) × (at + size ≤ length (now s)) ⌝ }
     ensures { λ r. ⌜ r ≡ valueOf big (part (now (s .entry)) at size) ⌝ }
 {
@@ -14,14 +32,29 @@ pub fn gather(big: bool, s: &[u8], at: usize, size: usize) -> u64
     let mut i: usize = 0;
     while i < size {
         let k = weight(big, size, i);
-        v = v + (wide(s[at + i]) << (8 * k));
+        v = v | (wide(s[at + i]) << (8 * k));
         i = i + 1;
     }
     v
 }
 
-// Writes the `size` low bytes of `v` at `at`.
+// Writes the `size` low bytes of `v` at `at`. The sizes are told apart as in `gather`.
 pub fn scatter(big: bool, s: &mut [u8], at: usize, size: usize, v: u64)
+    requires { ⌜ (size ≤ 8) × (at + size ≤ length (now s)) ⌝ }
+    ensures { λ _. ⌜ now (s .exit) ≡ sets (now (s .entry)) at (bytesOf big size v) ⌝ }
+{
+    if size == 4 {
+        scatter_walk(big, s, at, 4, v)
+    } else if size == 8 {
+        scatter_walk(big, s, at, 8, v)
+    } else if size == 1 {
+        scatter_walk(big, s, at, 1, v)
+    } else {
+        scatter_walk(big, s, at, size % 8, v)
+    }
+}
+
+fn scatter_walk(big: bool, s: &mut [u8], at: usize, size: usize, v: u64)
     requires { ⌜ (size ≤ 8) × (at + size ≤ length (now s)) ⌝ }
     ensures { λ _. ⌜ now (s .exit) ≡ sets (now (s .entry)) at (bytesOf big size v) ⌝ }
 {

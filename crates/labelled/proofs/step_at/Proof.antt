@@ -1,7 +1,7 @@
 -- `labelled::step_at` meets its contract.
 use Rattle.machine.specs.Program.{programOf}
 use Rattle.plan.proofs.Places.{of-bytes}
-use Rattle.labelled.proofs.OneTurn.{labels-valid, may-mark, turned}
+use Rattle.labelled.proofs.OneTurn.{labels-valid, leaked-turn, may-mark, turned}
 use borrow.Author.Needs.{needs}
 use Rattle.labelled.proofs.step_at.Statement.{statement}
 use Rattle.labelled.proofs.step_at.Tie as tie
@@ -14,15 +14,39 @@ leaks-within-requires c κs =
     let pre = entry .pre in
     (labels-valid (pre .0) (pre .3), pre .1)
 
-unless-requires : tie.Need-unless-requires
-unless-requires c κs = search needs
+report-requires : tie.Need-report-requires
+report-requires c κs = search needs
+
+same-length : tie.Need-same-length
+same-length c = search needs
+
+same-length-2 : tie.Need-same-length-2
+same-length-2 c = search needs
+
+same-length-3 : tie.Need-same-length-3
+same-length-3 c = search needs
+
+returns : tie.Need-returns
+returns c =
+    let at-leaks-within = c .before .before in
+    let at-slice-known7 = at-leaks-within .before .before .before .before in
+    let at-slice-known3 = at-slice-known7 .before .before .before .before in
+    let at-slice-known2 = at-slice-known3 .before in
+    let at-slice-known = at-slice-known2 .before in
+    let at-shared-slice-known = at-slice-known .before in
+    let entry = at-shared-slice-known .before in
+    let pre = entry .pre in
+    leaked-turn _ (programOf (entry .args .settings) _) _ _ _ _ _ _ (λ j. at-shared-slice-known .shared-slice-known .given j .fits)
+    (of-bytes _ _ _ (λ j. at-slice-known .slice-known .given j .fits) (λ j. at-slice-known2 .slice-known2 .given j .fits)
+    (λ j. at-slice-known3 .slice-known3 .given j .fits)) (pre .0) (pre .2) (pre .3) (pre .4) _ (at-leaks-within .leaks-within .ensures) (c .before .if1 .taken) _ (c .report .ensures)
 
 run-from-requires : tie.Need-run-from-requires
 run-from-requires c κs =
-    let at-run-from-arg = c .before .before .before .before in
-    let at-leaks-within-arg = at-run-from-arg .before .before .before .before in
-    let at-slice-known4 = at-leaks-within-arg .before .before .before .before in
-    let at-shared-slice-known = at-slice-known4 .before .before .before .before in
+    let at-public = c .before .before .before .before in
+    let at-leaks-within = at-public .before in
+    let at-slice-known7 = at-leaks-within .before .before .before .before in
+    let at-slice-known3 = at-slice-known7 .before .before .before .before in
+    let at-shared-slice-known = at-slice-known3 .before .before .before in
     let entry = at-shared-slice-known .before in
     let pre = entry .pre in
     (pre .0, pre .1, pre .2)
@@ -36,9 +60,9 @@ mark-after-requires c κs =
     let at-ram = at-went-on .before .before .before .before in
     let at-unique = at-ram .before .before .before .before in
     let at-run-from = at-unique .before in
-    let at-unless = at-run-from .before in
-    let at-run-from-arg = at-unless .before .before .before .before in
-    let at-leaks-within = at-run-from-arg .before in
+    let at-run-from-arg = at-run-from .before .before .before .before in
+    let at-public = at-run-from-arg .before in
+    let at-leaks-within = at-public .before in
     let at-slice-known7 = at-leaks-within .before .before .before .before in
     let at-slice-known3 = at-slice-known7 .before .before .before .before in
     let at-slice-known2 = at-slice-known3 .before in
@@ -48,21 +72,8 @@ mark-after-requires c κs =
     let pre = entry .pre in
     may-mark _ (programOf (entry .args .settings) _) _ _ _ _ _ _ (λ j. at-shared-slice-known .shared-slice-known .given j .fits)
     (of-bytes _ _ _ (λ j. at-slice-known .slice-known .given j .fits) (λ j. at-slice-known2 .slice-known2 .given j .fits)
-    (λ j. at-slice-known3 .slice-known3 .given j .fits)) (pre .0) (pre .2) (pre .3) (pre .4)
-    _ (at-leaks-within .leaks-within .ensures) _ (at-unless .unless .ensures) _ _ _ (at-run-from .run-from .ensures)
+    (λ j. at-slice-known3 .slice-known3 .given j .fits)) (pre .0) (pre .2) (pre .3) (pre .4) _ (at-leaks-within .leaks-within .ensures) (at-public .if1 .left) _ _ _ (at-run-from .run-from .ensures)
     _ (at-went-on .went-on .ensures)
-
-answer-requires : tie.Need-answer-requires
-answer-requires c κs = search needs
-
-same-length : tie.Need-same-length
-same-length c = search needs
-
-same-length-2 : tie.Need-same-length-2
-same-length-2 c = search needs
-
-same-length-3 : tie.Need-same-length-3
-same-length-3 c = search needs
 
 same-length-4 : tie.Need-same-length-4
 same-length-4 c = search needs
@@ -76,18 +87,27 @@ same-length-6 c = search needs
 same-length-7 : tie.Need-same-length-7
 same-length-7 c = search needs
 
-returns : tie.Need-returns
-returns c =
-    let at-register-labels = c .before .before .before .before in
+same-length-8 : tie.Need-same-length-8
+same-length-8 c = search needs
+
+same-length-9 : tie.Need-same-length-9
+same-length-9 c = search needs
+
+same-length-10 : tie.Need-same-length-10
+same-length-10 c = search needs
+
+returns-2 : tie.Need-returns-2
+returns-2 c =
+    let at-register-labels = c .before .before .before in
     let at-mark-after = at-register-labels .before .before .before in
     let at-mark-after-arg = at-mark-after .before .before .before .before in
     let at-went-on = at-mark-after-arg .before in
     let at-ram = at-went-on .before .before .before .before in
     let at-unique = at-ram .before .before .before .before in
     let at-run-from = at-unique .before in
-    let at-unless = at-run-from .before in
-    let at-run-from-arg = at-unless .before .before .before .before in
-    let at-leaks-within = at-run-from-arg .before in
+    let at-run-from-arg = at-run-from .before .before .before .before in
+    let at-public = at-run-from-arg .before in
+    let at-leaks-within = at-public .before in
     let at-slice-known7 = at-leaks-within .before .before .before .before in
     let at-slice-known3 = at-slice-known7 .before .before .before .before in
     let at-slice-known2 = at-slice-known3 .before in
@@ -97,26 +117,27 @@ returns c =
     let pre = entry .pre in
     turned _ (programOf (entry .args .settings) _) _ _ _ _ _ _ (λ j. at-shared-slice-known .shared-slice-known .given j .fits)
     (of-bytes _ _ _ (λ j. at-slice-known .slice-known .given j .fits) (λ j. at-slice-known2 .slice-known2 .given j .fits)
-    (λ j. at-slice-known3 .slice-known3 .given j .fits)) (pre .0) (pre .2) (pre .3) (pre .4)
-    _ (at-leaks-within .leaks-within .ensures) _ (at-unless .unless .ensures) _ _ _ (at-run-from .run-from .ensures)
-    _ (at-went-on .went-on .ensures)
-    _ (at-mark-after .mark-after .ensures) _ (c .answer .ensures)
+    (λ j. at-slice-known3 .slice-known3 .given j .fits)) (pre .0) (pre .2) (pre .3) (pre .4) _ (at-leaks-within .leaks-within .ensures) (at-public .if1 .left) _ _ _ (at-run-from .run-from .ensures)
+    _ (at-went-on .went-on .ensures) _ (at-mark-after .mark-after .ensures)
 
 pub step-at-spec : {M : Type 1} → statement M
 step-at-spec =
     tie.close
     (tie.spec
     leaks-within-requires
-    unless-requires
-    run-from-requires
-    went-on-requires
-    mark-after-requires
-    answer-requires
+    report-requires
     same-length
     same-length-2
     same-length-3
+    returns
+    run-from-requires
+    went-on-requires
+    mark-after-requires
     same-length-4
     same-length-5
     same-length-6
     same-length-7
-    returns)
+    same-length-8
+    same-length-9
+    same-length-10
+    returns-2)

@@ -1,12 +1,15 @@
 -- `plan::data_at` meets its contract.
 use Rattle.machine.specs.Effect.{operationAt}
-use Rattle.plan.proofs.Planning.{code-jumps, code-by-zero, code-copies, may-compute, code-computes}
+use Rattle.plan.proofs.Planning.{code-jumps, code-copies, code-by-zero, may-compute, code-computes}
 use borrow.Author.Needs.{needs}
 use Rattle.plan.proofs.data_at.Statement.{statement}
 use Rattle.plan.proofs.data_at.Tie as tie
 
 opcode-at-requires : tie.Need-opcode-at-requires
 opcode-at-requires c κs = search needs
+
+varnode-at-requires : tie.Need-varnode-at-requires
+varnode-at-requires c κs = search needs
 
 jumps-requires : tie.Need-jumps-requires
 jumps-requires c κs = search needs
@@ -17,9 +20,22 @@ unwritten-requires c κs = search needs
 returns : tie.Need-returns
 unfolding operationAt
 returns c =
-    let decoded = c .before .before .before in
+    let tested = c .before .before in
+    let decoded = tested .before .before .before in
     let entry = decoded .before .before in
-    code-jumps _ _ _ _ (decoded .opcode-at .ensures) (entry .pre .2) _ (c .before .before .jumps .ensures) _ _ (c .before .if1 .taken) (c .unwritten .ensures)
+    code-jumps _ _ _ _ (decoded .opcode-at .ensures) (entry .pre .2) _ (tested .jumps .ensures) _ _ (c .before .if2 .taken) (c .unwritten .ensures)
+
+writes-requires : tie.Need-writes-requires
+writes-requires c κs = search needs
+
+returns-2 : tie.Need-returns-2
+unfolding operationAt
+returns-2 c =
+    let tested = c .before .before in
+    let decoded = tested .before .before .before in
+    let entry = decoded .before .before in
+    code-copies _ _ _ _ (decoded .opcode-at .ensures) (entry .pre .2) _ (tested .jumps .ensures) (tested .before .if1 .taken) (c .before .if2 .left)
+    _ _ _ (tested .before .before .varnode-at .ensures) (c .writes .ensures)
 
 is-division-requires : tie.Need-is-division-requires
 is-division-requires c κs = search needs
@@ -30,32 +46,15 @@ both-requires c κs = search needs
 unwritten-requires-2 : tie.Need-unwritten-requires-2
 unwritten-requires-2 c κs = search needs
 
-returns-2 : tie.Need-returns-2
-unfolding operationAt
-returns-2 c =
-    let tested = c .before .before in
-    let stays = tested .before .before in
-    let decoded = stays .before .before in
-    let entry = decoded .before .before in
-    code-by-zero _ _ _ _ (decoded .opcode-at .ensures) (entry .pre .2) _ (stays .before .jumps .ensures) (stays .if1 .left)
-    _ _ (tested .before .is-division .ensures) (tested .both .ensures) _ _ (c .before .if2 .taken) (c .unwritten2 .ensures)
-
-varnode-at-requires : tie.Need-varnode-at-requires
-varnode-at-requires c κs = search needs
-
-writes-requires : tie.Need-writes-requires
-writes-requires c κs = search needs
-
 returns-3 : tie.Need-returns-3
 unfolding operationAt
 returns-3 c =
-    let tested = c .before .before .before .before in
-    let stays = tested .before .before in
-    let decoded = stays .before .before in
+    let tested = c .before .before in
+    let late = tested .before .before in
+    let decoded = late .before .before in
     let entry = decoded .before .before in
-    code-copies _ _ _ _ (decoded .opcode-at .ensures) (entry .pre .2) _ (stays .before .jumps .ensures) (stays .if1 .left)
-    _ _ (tested .before .is-division .ensures) (tested .both .ensures) (c .before .before .before .if2 .left)
-    _ (c .before .before .varnode-at .ensures) _ _ (c .before .if3 .taken) (c .writes .ensures)
+    code-by-zero _ _ _ _ (decoded .opcode-at .ensures) (entry .pre .2) (late .if1 .left)
+    _ _ (tested .before .is-division .ensures) (tested .both .ensures) _ _ (c .before .if3 .taken) (c .unwritten2 .ensures)
 
 varnode-at-requires-2 : tie.Need-varnode-at-requires-2
 varnode-at-requires-2 c κs = search needs
@@ -67,13 +66,13 @@ value-requires : tie.Need-value-requires
 unfolding operationAt
 value-requires c κs =
     let computing = c .before .before in
-    let tested = computing .before .before .before in
-    let stays = tested .before .before in
-    let decoded = stays .before .before in
+    let tested = computing .before in
+    let late = tested .before .before in
+    let decoded = late .before .before in
     let entry = decoded .before .before in
-    may-compute _ _ _ _ (decoded .opcode-at .ensures) (entry .pre .2) _ (stays .before .jumps .ensures) (stays .if1 .left)
-    _ _ (tested .before .is-division .ensures) (tested .both .ensures) (computing .before .before .if2 .left)
-    _ (computing .before .varnode-at .ensures) (computing .if3 .left) _ _ (c .before .varnode-at2 .ensures) (c .varnode-at3 .ensures)
+    may-compute _ _ _ _ (decoded .opcode-at .ensures) (entry .pre .2) (late .if1 .left)
+    _ _ (tested .before .is-division .ensures) (tested .both .ensures) (computing .if3 .left)
+    _ _ _ (late .before .varnode-at .ensures) (c .before .varnode-at2 .ensures) (c .varnode-at3 .ensures)
 
 writes-requires-2 : tie.Need-writes-requires-2
 writes-requires-2 c κs = search needs
@@ -81,14 +80,15 @@ writes-requires-2 c κs = search needs
 returns-4 : tie.Need-returns-4
 unfolding operationAt
 returns-4 c =
-    let computing = c .before .before .before .before in
-    let tested = computing .before .before .before in
-    let stays = tested .before .before in
-    let decoded = stays .before .before in
+    let operands = c .before .before in
+    let computing = operands .before .before in
+    let tested = computing .before in
+    let late = tested .before .before in
+    let decoded = late .before .before in
     let entry = decoded .before .before in
-    code-computes _ _ _ _ (decoded .opcode-at .ensures) (entry .pre .2) _ (stays .before .jumps .ensures) (stays .if1 .left)
-    _ _ (tested .before .is-division .ensures) (tested .both .ensures) (computing .before .before .if2 .left)
-    _ (computing .before .varnode-at .ensures) (computing .if3 .left) _ _ (c .before .before .before .varnode-at2 .ensures) (c .before .before .varnode-at3 .ensures)
+    code-computes _ _ _ _ (decoded .opcode-at .ensures) (entry .pre .2) (late .if1 .left)
+    _ _ (tested .before .is-division .ensures) (tested .both .ensures) (computing .if3 .left)
+    _ _ _ (late .before .varnode-at .ensures) (operands .before .varnode-at2 .ensures) (operands .varnode-at3 .ensures)
     _ _ _ (c .before .value .ensures) (c .writes2 .ensures)
 
 pub data-at-spec : {M : Type 1} → statement M
@@ -96,15 +96,15 @@ data-at-spec =
     tie.close
     (tie.spec
     opcode-at-requires
+    varnode-at-requires
     jumps-requires
     unwritten-requires
     returns
+    writes-requires
+    returns-2
     is-division-requires
     both-requires
     unwritten-requires-2
-    returns-2
-    varnode-at-requires
-    writes-requires
     returns-3
     varnode-at-requires-2
     varnode-at-requires-3

@@ -46,9 +46,9 @@ returns c =
 choose-requires-2 : tie.Need-choose-requires-2
 choose-requires-2 c κs = search needs
 
-read-requires : tie.Need-read-requires
+read-moved-requires : tie.Need-read-moved-requires
 unfolding operationAt lengthsOf
-read-requires c κs =
+read-moved-requires c κs =
     let tested = c .before .before in
     let sized = tested .before .before in
     let decoded = sized .before .before .before .before in
@@ -81,7 +81,7 @@ returns-2 c =
     (sized .before .before .varnode-at2 .ensures) (sized .before .varnode-at3 .ensures) (sized .choose .ensures) (entry .before .pre .2)
     _ (tested .before .length-of .ensures) _ (tested .within .ensures)
     (inside .if1 .left) _ (c .before .before .before .choose2 .ensures) (programOf (entry .before .args .settings) _) _ _ _
-    (c .before .before .read .ensures) _ (c .before .choose3 .ensures) (c .writes .ensures)
+    (c .before .before .read-moved .ensures) _ (c .before .choose3 .ensures) (c .writes .ensures)
 
 pub move-at-spec : {M : Type 1} → statement M
 move-at-spec =
@@ -97,7 +97,7 @@ move-at-spec =
     unwritten-requires
     returns
     choose-requires-2
-    read-requires
+    read-moved-requires
     choose-requires-3
     writes-requires
     returns-2)

@@ -1,29 +1,37 @@
 -- `memory::labels::mark` meets its contract. Assumes nothing.
-use mathlib.Core.Path.{sym}
+use mathlib.Core.Path.{sym, ap, _∙_}
 use borrow.Author.Needs.{needs}
 use lib.Dec.{lit≤}
+use lib.Seq.{sets}
 use Rattle.machine.specs.Memory.{spaceOf, withSpace}
 use Rattle.memory.proofs.Spaces.{placed-in, written-in, written-elsewhere}
+use Rattle.memory.proofs.Secrets.{same-labels}
 use Rattle.memory.proofs.labels.mark.Statement.{statement}
 use Rattle.memory.proofs.labels.mark.Tie as tie
 
-label-of-requires : tie.Need-label-of-requires
-label-of-requires c κs = search needs
+eight-labels-requires : tie.Need-eight-labels-requires
+eight-labels-requires c κs = search needs
 
-fill-requires : tie.Need-fill-requires
+scatter-requires : tie.Need-scatter-requires
 unfolding spaceOf
-fill-requires c κs =
-    placed-in _ _ 2 (c .before .match .keys1) (lit≤ tt) (c .before .before .before .before .before .before .pre)
+scatter-requires c κs =
+    let entry = c .before .before .before .before in
+    let p = entry .before .before .pre in
+    (p .size, placed-in _ _ 2 (c .before .match .keys1) (lit≤ tt) p)
 
-fill-requires-2 : tie.Need-fill-requires-2
+scatter-requires-2 : tie.Need-scatter-requires-2
 unfolding spaceOf
-fill-requires-2 c κs =
-    placed-in _ _ 3 (c .before .match .keys2) (lit≤ tt) (c .before .before .before .before .before .before .pre)
+scatter-requires-2 c κs =
+    let entry = c .before .before .before .before in
+    let p = entry .before .before .pre in
+    (p .size, placed-in _ _ 3 (c .before .match .keys2) (lit≤ tt) p)
 
-fill-requires-3 : tie.Need-fill-requires-3
+scatter-requires-3 : tie.Need-scatter-requires-3
 unfolding spaceOf
-fill-requires-3 c κs =
-    placed-in _ _ 4 (c .before .match .keys3) (lit≤ tt) (c .before .before .before .before .before .before .pre)
+scatter-requires-3 c κs =
+    let entry = c .before .before .before .before in
+    let p = entry .before .before .pre in
+    (p .size, placed-in _ _ 4 (c .before .match .keys3) (lit≤ tt) p)
 
 same-length : tie.Need-same-length
 same-length c = search needs
@@ -31,8 +39,10 @@ same-length c = search needs
 returns : tie.Need-returns
 unfolding spaceOf withSpace
 returns c =
-    rw (← c .before .before .before .before .before .label-of .ensures)
-    (written-in _ _ 2 (c .before .before .before .before .match .keys1) _ _ (c .before .before .fill .ensures))
+    let chosen = c .before .before .before .before in
+    let given = chosen .before .before .before .before in
+    written-in _ _ 2 (chosen .match .keys1) _ _
+    (c .before .before .scatter .ensures ∙ ap (sets _ _) (same-labels _ _ _ (given .before .pre .size) (chosen .before .eight-labels .ensures)))
 
 same-length-2 : tie.Need-same-length-2
 same-length-2 c = search needs
@@ -40,8 +50,10 @@ same-length-2 c = search needs
 returns-2 : tie.Need-returns-2
 unfolding spaceOf withSpace
 returns-2 c =
-    rw (← c .before .before .before .before .before .label-of .ensures)
-    (written-in _ _ 3 (c .before .before .before .before .match .keys2) _ _ (c .before .before .fill2 .ensures))
+    let chosen = c .before .before .before .before in
+    let given = chosen .before .before .before .before in
+    written-in _ _ 3 (chosen .match .keys2) _ _
+    (c .before .before .scatter2 .ensures ∙ ap (sets _ _) (same-labels _ _ _ (given .before .pre .size) (chosen .before .eight-labels .ensures)))
 
 same-length-3 : tie.Need-same-length-3
 same-length-3 c = search needs
@@ -49,8 +61,10 @@ same-length-3 c = search needs
 returns-3 : tie.Need-returns-3
 unfolding spaceOf withSpace
 returns-3 c =
-    rw (← c .before .before .before .before .before .label-of .ensures)
-    (written-in _ _ 4 (c .before .before .before .before .match .keys3) _ _ (c .before .before .fill3 .ensures))
+    let chosen = c .before .before .before .before in
+    let given = chosen .before .before .before .before in
+    written-in _ _ 4 (chosen .match .keys3) _ _
+    (c .before .before .scatter3 .ensures ∙ ap (sets _ _) (same-labels _ _ _ (given .before .pre .size) (chosen .before .eight-labels .ensures)))
 
 returns-4 : tie.Need-returns-4
 returns-4 c =
@@ -61,10 +75,10 @@ pub mark-spec : {M : Type 1} → statement M
 mark-spec =
     tie.close
     (tie.spec
-    label-of-requires
-    fill-requires
-    fill-requires-2
-    fill-requires-3
+    eight-labels-requires
+    scatter-requires
+    scatter-requires-2
+    scatter-requires-3
     same-length
     returns
     same-length-2

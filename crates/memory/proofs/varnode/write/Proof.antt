@@ -8,23 +8,23 @@ use Rattle.memory.proofs.Spaces.{placed-in, written-in, written-elsewhe
 use Rattle.memory.proofs.varnode.write.Statement.{statement}
 use Rattle.memory.proofs.varnode.write.Tie as tie
 
-scatter-requires : tie.Need-scatter-requires
+write-in-requires : tie.Need-write-in-requires
 unfolding spaceOf
-scatter-requires c κs =
+write-in-requires c κs =
     let entry = c .before .before .before .before in
     let p = entry .before .before .pre in
     (p .size, placed-in _ _ 2 (c .before .match .keys1) (lit≤ tt) p)
 
-scatter-requires-2 : tie.Need-scatter-requires-2
+write-in-requires-2 : tie.Need-write-in-requires-2
 unfolding spaceOf
-scatter-requires-2 c κs =
+write-in-requires-2 c κs =
     let entry = c .before .before .before .before in
     let p = entry .before .before .pre in
     (p .size, placed-in _ _ 3 (c .before .match .keys2) (lit≤ tt) p)
 
-scatter-requires-3 : tie.Need-scatter-requires-3
+write-in-requires-3 : tie.Need-write-in-requires-3
 unfolding spaceOf
-scatter-requires-3 c κs =
+write-in-requires-3 c κs =
     let entry = c .before .before .before .before in
     let p = entry .before .before .pre in
     (p .size, placed-in _ _ 4 (c .before .match .keys3) (lit≤ tt) p)
@@ -34,21 +34,21 @@ same-length c = search needs
 
 returns : tie.Need-returns
 unfolding spaceOf withSpace bigEndian
-returns c = written-in _ _ 2 (c .before .before .before .before .match .keys1) _ _ (c .before .before .scatter .ensures)
+returns c = written-in _ _ 2 (c .before .before .before .before .match .keys1) _ _ (c .before .before .write-in .ensures)
 
 same-length-2 : tie.Need-same-length-2
 same-length-2 c = search needs
 
 returns-2 : tie.Need-returns-2
 unfolding spaceOf withSpace bigEndian
-returns-2 c = written-in _ _ 3 (c .before .before .before .before .match .keys2) _ _ (c .before .before .scatter2 .ensures)
+returns-2 c = written-in _ _ 3 (c .before .before .before .before .match .keys2) _ _ (c .before .before .write-in2 .ensures)
 
 same-length-3 : tie.Need-same-length-3
 same-length-3 c = search needs
 
 returns-3 : tie.Need-returns-3
 unfolding spaceOf withSpace bigEndian
-returns-3 c = written-in _ _ 4 (c .before .before .before .before .match .keys3) _ _ (c .before .before .scatter3 .ensures)
+returns-3 c = written-in _ _ 4 (c .before .before .before .before .match .keys3) _ _ (c .before .before .write-in3 .ensures)
 
 returns-4 : tie.Need-returns-4
 returns-4 c =
@@ -59,9 +59,9 @@ pub write-spec : {M : Type 1} → statement M
 write-spec =
     tie.close
     (tie.spec
-    scatter-requires
-    scatter-requires-2
-    scatter-requires-3
+    write-in-requires
+    write-in-requires-2
+    write-in-requires-3
     same-length
     returns
     same-length-2

@@ -1,95 +1,86 @@
--- `word::bytes::scatter` meets its contract. The loop's invariant: the bytes passed are written, and nothing else.
--- Assumes nothing.
-use Prim.Native.Nat.{_+_, _-_, _≤_, _<_}
-use mathlib.Core.Path.{_≡_, refl, sym, _∙_}
-use native.Mathlib.Nat.{le-refl}
-use native.Mathlib.Numerals.{add-one}
+-- `word::bytes::scatter` meets its contract: each call of the walk is at the size that was asked for. Assumes nothing.
+use Prim.Native.Nat.{ℕ}
+use mathlib.Core.Path.{_≡_, ap, _∙_}
 use native.Mathlib.Omega.{arith}
 use borrow.Author.Needs.{needs}
-use lib.ListN.{length, length-set}
-use lib.Seq.{paste, paste-zero, paste-suc, sets-eq, take-all}
+use lib.Seq.{sets}
 use Rattle.word.specs.Word.{bytesOf}
-use Rattle.word.proofs.Laws.{bytes-length, scattered}
+use Rattle.word.proofs.Laws.{below-eight}
 use Rattle.word.proofs.bytes.scatter.Statement.{statement}
 use Rattle.word.proofs.bytes.scatter.Tie as tie
 
-abbrev Inv-loop : tie.InvT-loop
-Inv-loop big s₀ at size v i₀ s i =
-    (i ≤ size) × ((s ≡ paste s₀ at (bytesOf big size v) i) × (length s ≡ length s₀))
+scatter-walk-requires : tie.Need-scatter-walk-requires
+scatter-walk-requires c κs = search needs
 
-abbrev μ-loop : tie.MeasureT-loop
-μ-loop big s₀ at size v i₀ s i = size - i
+scatter-walk-requires-2 : tie.Need-scatter-walk-requires-2
+scatter-walk-requires-2 c κs = search needs
 
-loop-holds : tie.Need-loop-holds Inv-loop μ-loop
-loop-holds c =
-    let a = c .before .args in
-    (omega arith, (paste-zero (a .s .now) (a .at) (bytesOf (a .big) (a .size) (a .v)), refl))
+scatter-walk-requires-3 : tie.Need-scatter-walk-requires-3
+scatter-walk-requires-3 c κs = search needs
 
-weight-requires : tie.Need-weight-requires Inv-loop μ-loop
-weight-requires c κs = search needs
+scatter-walk-requires-4 : tie.Need-scatter-walk-requires-4
+scatter-walk-requires-4 c κs =
+    let at-size = c .before .before in
+    let entry = at-size .before .before .before in
+    rw (below-eight (entry .args .size) (entry .pre .0) (at-size .if2 .left)) (entry .pre)
 
-mul-s : tie.Need-mul-s Inv-loop μ-loop
-mul-s c = omega arith
+same-length : tie.Need-same-length
+same-length c = search needs
 
-shr-s : tie.Need-shr-s Inv-loop μ-loop
-shr-s c = omega arith
-
-cast-s : tie.Need-cast-s Inv-loop μ-loop
-cast-s c = omega arith
-
-add-s : tie.Need-add-s Inv-loop μ-loop
-add-s c = omega arith
-
-slice-write-s : tie.Need-slice-write-s Inv-loop μ-loop
-slice-write-s c = omega arith
-
-add-i : tie.Need-add-i Inv-loop μ-loop
-add-i c = omega arith
-
-loop-less : tie.Need-loop-less Inv-loop μ-loop
-loop-less c = omega arith
-
-loop-again : tie.Need-loop-again Inv-loop μ-loop
-loop-again c =
-    let l = c .before .before .loop in
-    let a = c .before .before .before .before .args in
-    let inside : l .i < length (bytesOf (a .big) (a .size) (a .v)) = rw bytes-length (omega arith) in (
-      omega arith,
-      (
-        rw (l .inv .1 .0, c .weight .ensures .0, scattered (a .big) (a .size) (a .v) (l .i) (omega arith), add-one)
-            (paste-suc (a .s .now) (a .at) (bytesOf (a .big) (a .size) (a .v)) (l .i) 0 (omega arith) inside),
-        simp length-set (l .inv .1 .1),
-      ),
-    )
-
-same-length : tie.Need-same-length Inv-loop μ-loop
-same-length c = c .before .loop .inv .1 .1
-
-returns : tie.Need-returns Inv-loop μ-loop
+returns : tie.Need-returns
 returns c =
-    let l = c .before .loop in
-    let a = c .before .before .before .args in
-    let e : l .i ≡ length (bytesOf (a .big) (a .size) (a .v)) = rw bytes-length (omega arith) in
-    let fits : a .at + length (bytesOf (a .big) (a .size) (a .v)) ≤ length (a .s .now) = rw bytes-length (omega arith) in
-    l .inv .1 .0
-    ∙ rw (e, take-all (length (bytesOf (a .big) (a .size) (a .v))) (bytesOf (a .big) (a .size) (a .v)) (le-refl _))
-    (sym (sets-eq (bytesOf (a .big) (a .size) (a .v)) (a .s .now) (a .at) fits))
+    let at-walk = c .before .before in
+    let a = at-walk .before .before .before .before .args in
+    let e : 4 ≡ a .size = omega arith in
+    at-walk .scatter-walk .ensures ∙ ap (λ (n : ℕ). sets (a .s .now) (a .at) (bytesOf (a .big) n (a .v))) e
+
+same-length-2 : tie.Need-same-length-2
+same-length-2 c = search needs
+
+returns-2 : tie.Need-returns-2
+returns-2 c =
+    let at-walk = c .before .before in
+    let at-size = at-walk .before .before .before in
+    let a = at-size .before .before .args in
+    let e : 8 ≡ a .size = omega arith in
+    at-walk .scatter-walk2 .ensures ∙ ap (λ (n : ℕ). sets (a .s .now) (a .at) (bytesOf (a .big) n (a .v))) e
+
+same-length-3 : tie.Need-same-length-3
+same-length-3 c = search needs
+
+returns-3 : tie.Need-returns-3
+returns-3 c =
+    let at-walk = c .before .before in
+    let at-size = at-walk .before .before .before in
+    let a = at-size .before .before .before .args in
+    let e : 1 ≡ a .size = omega arith in
+    at-walk .scatter-walk3 .ensures ∙ ap (λ (n : ℕ). sets (a .s .now) (a .at) (bytesOf (a .big) n (a .v))) e
+
+same-length-4 : tie.Need-same-length-4
+same-length-4 c = search needs
+
+returns-4 : tie.Need-returns-4
+returns-4 c =
+    let at-walk = c .before .before in
+    let at-size = at-walk .before .before .before in
+    let entry = at-size .before .before .before in
+    let a = entry .args in
+    at-walk .scatter-walk4 .ensures
+    ∙ ap (λ (n : ℕ). sets (a .s .now) (a .at) (bytesOf (a .big) n (a .v))) (below-eight (a .size) (entry .pre .0) (at-size .if2 .left))
 
 pub scatter-spec : {M : Type 1} → statement M
 scatter-spec =
     tie.close
     (tie.spec
-    Inv-loop
-    μ-loop
-    loop-holds
-    weight-requires
-    mul-s
-    shr-s
-    cast-s
-    add-s
-    slice-write-s
-    add-i
-    loop-less
-    loop-again
+    scatter-walk-requires
+    scatter-walk-requires-2
+    scatter-walk-requires-3
+    scatter-walk-requires-4
     same-length
-    returns)
+    returns
+    same-length-2
+    returns-2
+    same-length-3
+    returns-3
+    same-length-4
+    returns-4)
