@@ -1,24 +1,22 @@
 //! Checks that the two interpreters do the same: the loops, shorter, and every integer operation.
 
-use crate::library::{labelled_run, run, Labels, Program, State};
-use crate::loops::loops;
-use crate::rust_run;
+use crate::library::{Labels, Program, State};
+use crate::loops::{loops, straight};
+use crate::{run, Kind};
 
 const OPERATIONS: u32 = 1_000;
 
 /// Runs a program on both, and with public labels. Gives back the report.
 fn check(program: &Program, budget: u32, state: &State) -> [u64; 5] {
-    let mut proved = state.clone();
-    let mut rust = state.clone();
-    let mut labelled = state.clone();
     let mut labels = Labels::public(state);
-    let report = run(program, budget, &mut proved);
-    assert_eq!(rust_run(program, budget, &mut rust), report, "{:x?}", program.list);
-    assert_eq!(rust, proved, "{:x?}", program.list);
-    assert_eq!(labelled_run(program, budget, &mut labelled, &mut labels), report);
-    assert_eq!(labelled, proved, "{:x?}", program.list);
+    let [rust, plain, labelled] = [Kind::Rust, Kind::Plain, Kind::Labelled].map(|kind| {
+        let mut state = state.clone();
+        (run(kind, program, budget, &mut state, &mut labels), state)
+    });
+    assert_eq!(rust, plain, "{:x?}", program.list);
+    assert_eq!(labelled, plain, "{:x?}", program.list);
     assert_eq!(labels, Labels::public(state));
-    report
+    plain.0
 }
 
 #[test]
@@ -33,13 +31,19 @@ fn loops_agree() {
 
 #[test]
 fn a_full_log_and_a_pointer_beyond_ram_stop_both() {
-    for timed in loops(100) {
+    for timed in loops(10) {
         assert_eq!(check(&timed.program, OPERATIONS, &timed.state)[0], 34, "{}", timed.name);
     }
-    let [_, copying] = loops(OPERATIONS);
+    let copying = loops(OPERATIONS).remove(1);
     let mut state = copying.state;
     state.ram.truncate(32_768 + 20);
     assert_eq!(check(&copying.program, OPERATIONS, &state)[0], 32);
+}
+
+#[test]
+fn a_straight_list_ends() {
+    let (program, state) = straight(7, 9);
+    assert_eq!(check(&program, OPERATIONS, &state), [0, 7, 7, 0, 0]);
 }
 
 /// The sizes of output, input0 and input1 of an integer operation whose input0 has this size, if it

@@ -5,27 +5,34 @@ use crate::library::{Program, State};
 /// A program and what it starts with.
 pub struct Loop {
     pub name: &'static str,
+    /// The size in bytes of every operand but the condition, and of an address.
+    pub size: u64,
     pub program: Program,
     pub state: State,
 }
 
-/// The loops, with room in the log for this many operations.
-pub fn loops(operations: u32) -> [Loop; 2] {
-    [counting_loop(operations), copying_loop(operations)]
+impl Loop {
+    pub fn order_name(&self) -> &'static str {
+        if self.program.order == BIG {
+            "big"
+        } else {
+            "little"
+        }
+    }
 }
 
 const LITTLE: u64 = 0;
-const ADDRESS_SIZE: u64 = 8;
+const BIG: u64 = 1;
 
-fn with_list(name: &'static str, operations: u32, ram_len: usize, list: &[[u64; 5]]) -> Loop {
-    let program = Program { order: LITTLE, address_size: ADDRESS_SIZE, list: list.concat() };
-    let state = State {
-        unique: vec![0; 64],
-        register: vec![0; 64],
-        ram: (0..ram_len).map(|offset| offset as u8).collect(),
-        log: vec![0; operations as usize],
-    };
-    Loop { name, program, state }
+/// Both loops at the sizes that have a fast way, in both byte orders, with room in the log for this
+/// many operations. The first two are those of size 8 in little order.
+pub fn loops(operations: u32) -> Vec<Loop> {
+    let mut loops = Vec::new();
+    for (size, order) in [(8, LITTLE), (4, LITTLE), (1, LITTLE), (8, BIG), (4, BIG), (1, BIG)] {
+        loops.push(counting_loop(operations, size, order));
+        loops.push(copying_loop(operations, size, order));
+    }
+    loops
 }
 
 /// A distance of a branch.
@@ -33,44 +40,86 @@ fn back(operations: i64) -> u64 {
     -operations as u64
 }
 
+/// The first word of an operation: its opcode, and a space and a size for each varnode.
+fn head(opcode: u64, varnodes: &[(u64, u64)]) -> u64 {
+    let byte =
+        |(place, (space, size)): (usize, &(u64, u64))| (16 * space + size) << (8 * place + 8);
+    opcode + varnodes.iter().enumerate().map(byte).sum::<u64>()
+}
+
+const ABSENT: (u64, u64) = (0, 0);
+/// The condition of a CBRANCH, one byte of unique.
+const CONDITION: (u64, u64) = (2, 1);
+/// A constant that names a space.
+const SPACE: (u64, u64) = (1, 1);
+/// A constant distance.
+const DISTANCE: (u64, u64) = (1, 8);
+const RAM: u64 = 4;
+
 /// Counts in one register and adds the count to another, four operations a round.
-fn counting_loop(operations: u32) -> Loop {
+fn counting_loop(operations: u32, size: u64, order: u64) -> Loop {
+    let register = (3, size);
+    let constant = (1, size);
     let list = [
         // INT_ADD: count = count + 1.
-        [0x18_38_38_15, 0, 0, 1, 0],
+        [head(21, &[register, register, constant]), 0, 0, 1, 0],
         // INT_ADD: sum = sum + count.
-        [0x38_38_38_15, 8, 8, 0, 0],
+        [head(21, &[register, register, register]), 8, 8, 0, 0],
         // INT_NOTEQUAL: whether the count has not wrapped.
-        [0x18_38_21_0e, 0, 0, 0, 0],
+        [head(14, &[CONDITION, register, constant]), 0, 0, 0, 0],
         // CBRANCH: the next round.
-        [0x21_18_00_05, 0, back(3), 0, 0],
+        [head(5, &[ABSENT, DISTANCE, CONDITION]), 0, back(3), 0, 0],
+        // BRANCH: all of it again.
+        [head(4, &[ABSENT, DISTANCE]), 0, back(4), 0, 0],
     ];
-    with_list("counting", operations, 0, &list)
+    let program = Program { order, address_size: size, list: list.concat() };
+    Loop { name: "counting", size, program, state: state(operations, 0) }
 }
 
 /// Copies the lower half of ram to the upper half, word by word through two pointers, again and
 /// again: six operations a word.
-fn copying_loop(operations: u32) -> Loop {
-    const HALF: u64 = 32_768;
+fn copying_loop(operations: u32, size: u64, order: u64) -> Loop {
+    // As much ram as a pointer reaches, and at most 65,536 bytes.
+    let half = if size == 1 { 128 } else { 32_768 };
+    let register = (3, size);
+    let constant = (1, size);
+    let word = (2, size);
     let list = [
         // COPY: the source starts at the lower half.
-        [0x18_38_01, 0, 0, 0, 0],
+        [head(1, &[register, constant]), 0, 0, 0, 0],
         // COPY: the target starts at the upper half.
-        [0x18_38_01, 8, HALF, 0, 0],
+        [head(1, &[register, constant]), 8, half, 0, 0],
         // LOAD: word = ram[source].
-        [0x38_11_28_02, 8, 4, 0, 0],
+        [head(2, &[word, SPACE, register]), 8, RAM, 0, 0],
         // STORE: ram[target] = word.
-        [0x28_38_11_00_03, 0, 4, 8, 8],
-        // INT_ADD: source = source + 8.
-        [0x18_38_38_15, 0, 0, 8, 0],
-        // INT_ADD: target = target + 8.
-        [0x18_38_38_15, 8, 8, 8, 0],
+        [head(3, &[ABSENT, SPACE, register, word]), 0, RAM, 8, 8],
+        // INT_ADD: source = source + size.
+        [head(21, &[register, register, constant]), 0, 0, size, 0],
+        // INT_ADD: target = target + size.
+        [head(21, &[register, register, constant]), 8, 8, size, 0],
         // INT_LESS: whether the source is still in the lower half.
-        [0x18_38_21_0f, 0, 0, HALF, 0],
+        [head(15, &[CONDITION, register, constant]), 0, 0, half, 0],
         // CBRANCH: the next word.
-        [0x21_18_00_05, 0, back(5), 0, 0],
+        [head(5, &[ABSENT, DISTANCE, CONDITION]), 0, back(5), 0, 0],
         // BRANCH: all of it again.
-        [0x18_00_04, 0, back(8), 0, 0],
+        [head(4, &[ABSENT, DISTANCE]), 0, back(8), 0, 0],
     ];
-    with_list("copying", operations, 65_536, &list)
+    let program = Program { order, address_size: size, list: list.concat() };
+    Loop { name: "copying", size, program, state: state(operations, 2 * half as usize) }
+}
+
+fn state(operations: u32, ram_len: usize) -> State {
+    State {
+        unique: vec![0; 64],
+        register: vec![0; 64],
+        ram: (0..ram_len).map(|offset| offset as u8).collect(),
+        log: vec![0; operations as usize],
+    }
+}
+
+/// A list of so many INT_ADD operations, and ram of so many bytes.
+pub fn straight(operations: usize, ram_len: usize) -> (Program, State) {
+    let add = [head(21, &[(3, 8), (3, 8), (3, 8)]), 0, 8, 16, 0];
+    let program = Program { order: LITTLE, address_size: 8, list: vec![add; operations].concat() };
+    (program, state(0, ram_len))
 }

@@ -1,77 +1,68 @@
 //! Times the proved interpreter against a plain one in safe Rust, on loops of one million operations.
 //!
-//! `cargo run --release` prints the ratios; `cargo test --release` checks that both do the same.
+//! `cargo run --release` prints the times and their ratios, `cargo run --release instructions` counts
+//! instructions; `cargo test --release` checks that both do the same, and that the archive is as it
+//! was measured.
 
+mod instructions;
 mod interpreter;
 mod library;
 mod loops;
+mod placement;
+mod times;
 
+#[cfg(test)]
+mod archive;
 #[cfg(test)]
 mod check;
 
-use std::hint::black_box;
-use std::time::{Duration, Instant};
+use std::env;
+use std::process::exit;
 
 use interpreter::{decode, Memory};
-use library::{labelled_run, run, Labels, Program, State};
-use loops::{loops, Loop};
+use library::{Labels, Program, State};
 
-const OPERATIONS: u32 = 1_000_000;
-const REPETITIONS: u32 = 25;
+/// The runs that are compared.
+#[derive(Clone, Copy)]
+pub enum Kind {
+    Rust,
+    Plain,
+    Labelled,
+}
 
 fn main() {
-    println!("{OPERATIONS} operations, the least time of {REPETITIONS} repetitions each");
-    for timed in loops(OPERATIONS) {
-        let times = time(&timed);
-        println!(
-            "{:<8}  proved {:6.2} ns, Rust {:6.2} ns, labelled {:6.2} ns an operation: \
-             proved/Rust {:.2}, labelled/plain {:.2}",
-            timed.name,
-            nanoseconds(times.proved),
-            nanoseconds(times.rust),
-            nanoseconds(times.labelled),
-            ratio(times.proved, times.rust),
-            ratio(times.labelled, times.proved),
-        );
+    placement::keep();
+    let arguments: Vec<String> = env::args().skip(1).collect();
+    let words: Vec<&str> = arguments.iter().map(String::as_str).collect();
+    let done = match words[..] {
+        [] => {
+            times::print();
+            Ok(())
+        }
+        ["instructions"] => instructions::print(),
+        // What `instructions` counts: one run, in a process of its own.
+        ["once", ref run @ ..] => instructions::once(run),
+        _ => Err("say nothing, for times, or 'instructions'".to_string()),
+    };
+    if let Err(message) = done {
+        eprintln!("benchmarks: {message}");
+        exit(1);
     }
 }
 
-/// The least times of a loop.
-struct Times {
-    proved: Duration,
-    rust: Duration,
-    labelled: Duration,
-}
-
-/// Times the three runs in turn, so that a slow moment of the machine meets all of them.
-fn time(timed: &Loop) -> Times {
-    let Loop { program, state, .. } = timed;
-    let mut least = Times { proved: Duration::MAX, rust: Duration::MAX, labelled: Duration::MAX };
-    for _ in 0..REPETITIONS {
-        let time = timed_run(state, |state| run(program, OPERATIONS, state));
-        least.proved = least.proved.min(time);
-        let time = timed_run(state, |state| rust_run(program, OPERATIONS, state));
-        least.rust = least.rust.min(time);
-        let mut labels = Labels::public(state);
-        let time = timed_run(state, |state| labelled_run(program, OPERATIONS, state, &mut labels));
-        least.labelled = least.labelled.min(time);
+/// The report of a run of one kind. The labels are those of a labelled run.
+fn run(
+    kind: Kind,
+    program: &Program,
+    budget: u32,
+    state: &mut State,
+    labels: &mut Labels,
+) -> [u64; 5] {
+    match kind {
+        Kind::Rust => rust_run(program, budget, state),
+        Kind::Plain => library::run(program, budget, state),
+        Kind::Labelled => library::labelled_run(program, budget, state, labels),
     }
-    least
-}
-
-/// The time of one run on a fresh copy of the state, which is not part of the time.
-fn timed_run(state: &State, run: impl FnOnce(&mut State) -> [u64; 5]) -> Duration {
-    let mut state = state.clone();
-    // Touches every page of the log, so that the run does not wait for the system to give it.
-    state.log.fill(1);
-    let started = Instant::now();
-    let report = run(black_box(&mut state));
-    let time = started.elapsed();
-    let [ending, _, executed, ..] = black_box(report);
-    let expected = (2, u64::from(OPERATIONS));
-    assert_eq!((ending, executed), expected, "the loop ended before its budget");
-    black_box(&state);
-    time
 }
 
 /// The report of the plain interpreter, decoding included.
@@ -80,12 +71,4 @@ fn rust_run(program: &Program, budget: u32, state: &mut State) -> [u64; 5] {
     let State { unique, register, ram, log } = state;
     let mut memory = Memory { is_big: program.order == 1, unique, register, ram };
     interpreter::run(&operations, 0, budget, &mut memory, log)
-}
-
-fn nanoseconds(time: Duration) -> f64 {
-    time.as_secs_f64() * 1e9 / f64::from(OPERATIONS)
-}
-
-fn ratio(time: Duration, base: Duration) -> f64 {
-    time.as_secs_f64() / base.as_secs_f64()
 }

@@ -1,17 +1,17 @@
 -- What the operands of an operation satisfy, by the sentence of rule 25 that its opcode falls under. Assumes nothing.
 use Prim.Native.Nat.{ℕ, _+_, _*_, _^_, _≤_, _<_}
-use mathlib.Core.Bool.{Bool, true, false, cond, _&&_, _||_}
+use mathlib.Core.Bool.{Bool, true, false, _&&_}
 use mathlib.Core.List.{List, [], _∷_}
 use mathlib.Core.Path.{_≡_, refl, sym, subst, ap, _∙_}
 use native.Mathlib.Omega.{arith}
-use native.Mathlib.Nat.{lt-of-lt-of-le}
-use borrow.Author.Tests.{eqb-true, leb-true, ne-eqb}
-use lib.Dec.{eqb, leb, ltb}
+use native.Mathlib.Nat.{lt-of-lt-of-le, div-eq-of-lt, pow-le-pow-right}
+use borrow.Author.Tests.{eqb-true, ltb-true, ltb-false, leb-true, ne-eqb}
+use lib.Dec.{lit<, eqb, leb, ltb}
 use lib.ListN.{getD}
-use Rattle.word.specs.Sum.{tabulate}
+use Rattle.word.specs.Sum.{tabulate, digit}
 use Rattle.word.proofs.Sums.{tabulate-at}
 use Rattle.word.proofs.Powers.{size-most}
-use Rattle.arithmetic.specs.Operands.{Operands, among, unary, sizesAgree, divides}
+use Rattle.arithmetic.specs.Operands.{Operands, among, sizesAgree, divides}
 use Rattle.integer.specs.Operations.{flag}
 use Rattle.integer.proofs.Booleans.{both}
 use Rattle.integer.proofs.Whole.{piece-lt}
@@ -36,59 +36,60 @@ unfolding flag
 flag-one true = refl
 flag-one false = refl
 
--- the sentences of rule 25, counted in its definition's order
-unfoldable pub sentence : (opcode : ℕ) → ℕ
-sentence opcode =
-    cond (among opcode (26 ∷ 27 ∷ 31 ∷ 32 ∷ 33 ∷ [])) 1
-    (cond (among opcode (21 ∷ 22 ∷ 34 ∷ 35 ∷ 37 ∷ 36 ∷ 38 ∷ 28 ∷ 29 ∷ 30 ∷ [])) 2
-    (cond (among opcode (13 ∷ 14 ∷ 15 ∷ 16 ∷ 17 ∷ 18 ∷ 23 ∷ 24 ∷ 25 ∷ [])) 3
-    (cond (among opcode (19 ∷ 20 ∷ [])) 4
-    (cond (among opcode (39 ∷ 40 ∷ 41 ∷ 42 ∷ [])) 5
-    (cond (among opcode (10 ∷ [])) 6
-    (cond (among opcode (11 ∷ 12 ∷ [])) 7 0))))))
+-- a bit that counts more than the number
+pub no-bit : (v k n : ℕ) → v < 2 ^ n → n ≤ k → digit 2 v k ≡ 0
+unfolding digit
+no-bit v k n small h = rw (div-eq-of-lt (lt-of-lt-of-le small (pow-le-pow-right {n = 2} (lit< tt) h))) refl
 
--- and what each of them says
-unfoldable pub said : (unary : Bool) (sentence size size0 size1 : ℕ) → Bool
-said u k size size0 size1 =
-    cond (eqb k 1) (eqb size0 size)
-    (cond (eqb k 2) (eqb size0 size && eqb size1 size)
-    (cond (eqb k 3) (eqb size1 size0 && eqb size 1)
-    (cond (eqb k 4) (ltb size0 size)
-    (cond (eqb k 5) (eqb size0 1 && (u || eqb size1 1) && eqb size 1)
-    (cond (eqb k 6) (eqb (size0 + size1) size) (eqb k 7))))))
-
-agree-as-said : (opcode size size0 size1 : ℕ) → sizesAgree opcode size size0 size1 ≡ said (unary opcode) (sentence opcode) size size0 size1
-unfolding sizesAgree sentence said
-agree-as-said opcode size size0 size1 =
-    by (among opcode (26 ∷ 27 ∷ 31 ∷ 32 ∷ 33 ∷ [])) (among opcode (21 ∷ 22 ∷ 34 ∷ 35 ∷ 37 ∷ 36 ∷ 38 ∷ 28 ∷ 29 ∷ 30 ∷ []))
-    (among opcode (13 ∷ 14 ∷ 15 ∷ 16 ∷ 17 ∷ 18 ∷ 23 ∷ 24 ∷ 25 ∷ [])) (among opcode (19 ∷ 20 ∷ []))
-    (among opcode (39 ∷ 40 ∷ 41 ∷ 42 ∷ [])) (among opcode (10 ∷ [])) (among opcode (11 ∷ 12 ∷ []))
+-- what is told by the bits of a set
+pub set-tells : (set : ℕ) (g : ℕ → Bool) → set < 2 ^ 64 → ((k : ℕ) → 63 < k → g k ≡ false)
+    → tabulate 64 (λ k. digit 2 set k) ≡ tabulate 64 (λ k. flag (g k)) → (k : ℕ) → eqb (digit 2 set k) 1 ≡ g k
+set-tells set g small past same k = by (ltb k 64) refl
   where
-    by : (t1 t2 t3 t4 t5 t6 t7 : Bool)
-        → cond t1 (eqb size0 size) (cond t2 (eqb size0 size && eqb size1 size) (cond t3 (eqb size1 size0 && eqb size 1) (cond t4 (ltb size0 size)
-        (cond t5 (eqb size0 1 && (unary opcode || eqb size1 1) && eqb size 1) (cond t6 (eqb (size0 + size1) size) t7)))))
-        ≡ said (unary opcode) (cond t1 1 (cond t2 2 (cond t3 3 (cond t4 4 (cond t5 5 (cond t6 6 (cond t7 7 0))))))) size size0 size1
-    by true t2 t3 t4 t5 t6 t7 = refl
-    by false true t3 t4 t5 t6 t7 = refl
-    by false false true t4 t5 t6 t7 = refl
-    by false false false true t5 t6 t7 = refl
-    by false false false false true t6 t7 = refl
-    by false false false false false true t7 = refl
-    by false false false false false false true = refl
-    by false false false false false false false = refl
+    by : (t : Bool) → ltb k 64 ≡ t → eqb (digit 2 set k) 1 ≡ g k
+    by true e =
+        let h = ltb-true k 64 e in
+        let bit : digit 2 set k ≡ flag (g k) =
+        sym (tabulate-at 64 (λ n. digit 2 set n) k h) ∙ ap (λ (l : List ℕ). getD l k 0) same ∙ tabulate-at 64 (λ n. flag (g n)) k h in
+        rw bit (flag-one (g k))
+    by false e = let h = ltb-false k 64 e in rw (past k h, no-bit set k 64 small h) refl
 
-pub as-said : (opcode k size size0 size1 : ℕ) → sentence opcode ≡ k → said (unary opcode) k size size0 size1 ≡ sizesAgree opcode size size0 size1
-as-said opcode k size size0 size1 e = sym (agree-as-said opcode size size0 size1 ∙ ap (λ (n : ℕ). said (unary opcode) n size size0 size1) e)
+pub set-among : (set : ℕ) (l : List ℕ) → set < 2 ^ 64 → upTo 63 l ≡ true → tabulate 64 (λ k. digit 2 set k) ≡ tabulate 64 (λ k. flag (among k l))
+    → (k : ℕ) → eqb (digit 2 set k) 1 ≡ among k l
+set-among set l small up same = set-tells set (λ k. among k l) small (λ k h. not-among k 63 l up h) same
 
-pub nothing-said : (u : Bool) (k size size0 size1 : ℕ) → (k ≡ 1 → ⊥) → (k ≡ 2 → ⊥) → (k ≡ 3 → ⊥) → (k ≡ 4 → ⊥) → (k ≡ 5 → ⊥) → (k ≡ 6 → ⊥) → (k ≡ 7 → ⊥)
-    → false ≡ said u k size size0 size1
-unfolding said
-nothing-said u k size size0 size1 n1 n2 n3 n4 n5 n6 n7 =
-    rw (ne-eqb k 1 n1, ne-eqb k 2 n2, ne-eqb k 3 n3, ne-eqb k 4 n4, ne-eqb k 5 n5, ne-eqb k 6 n6, ne-eqb k 7 n7)
+-- the sets of the code
+pub unary-set : (k : ℕ) → eqb (digit 2 549958717440 k) 1 ≡ among k (12 ∷ 19 ∷ 20 ∷ 26 ∷ 27 ∷ 39 ∷ [])
+unfolding among flag tabulate digit
+unary-set = set-among 549958717440 (12 ∷ 19 ∷ 20 ∷ 26 ∷ 27 ∷ 39 ∷ []) (lit< tt) refl refl
 
--- the sentence that a table of them has
-pub looked-up : (opcode k : ℕ) → opcode < 43 → getD (tabulate 43 sentence) opcode 0 ≡ k → sentence opcode ≡ k
-looked-up opcode k h e = sym (tabulate-at 43 sentence opcode h) ∙ e
+pub kept-set : (k : ℕ) → eqb (digit 2 15233712128 k) 1 ≡ among k (26 ∷ 27 ∷ 31 ∷ 32 ∷ 33 ∷ [])
+unfolding among flag tabulate digit
+kept-set = set-among 15233712128 (26 ∷ 27 ∷ 31 ∷ 32 ∷ 33 ∷ []) (lit< tt) refl refl
+
+pub equal-set : (k : ℕ) → eqb (digit 2 534461284352 k) 1 ≡ among k (21 ∷ 22 ∷ 34 ∷ 35 ∷ 37 ∷ 36 ∷ 38 ∷ 28 ∷ 29 ∷ 30 ∷ [])
+unfolding among flag tabulate digit
+equal-set = set-among 534461284352 (21 ∷ 22 ∷ 34 ∷ 35 ∷ 37 ∷ 36 ∷ 38 ∷ 28 ∷ 29 ∷ 30 ∷ []) (lit< tt) refl refl
+
+pub compared-set : (k : ℕ) → eqb (digit 2 59236352 k) 1 ≡ among k (13 ∷ 14 ∷ 15 ∷ 16 ∷ 17 ∷ 18 ∷ 23 ∷ 24 ∷ 25 ∷ [])
+unfolding among flag tabulate digit
+compared-set = set-among 59236352 (13 ∷ 14 ∷ 15 ∷ 16 ∷ 17 ∷ 18 ∷ 23 ∷ 24 ∷ 25 ∷ []) (lit< tt) refl refl
+
+pub extended-set : (k : ℕ) → eqb (digit 2 1572864 k) 1 ≡ among k (19 ∷ 20 ∷ [])
+unfolding among flag tabulate digit
+extended-set = set-among 1572864 (19 ∷ 20 ∷ []) (lit< tt) refl refl
+
+pub boolean-set : (k : ℕ) → eqb (digit 2 8246337208320 k) 1 ≡ among k (39 ∷ 40 ∷ 41 ∷ 42 ∷ [])
+unfolding among flag tabulate digit
+boolean-set = set-among 8246337208320 (39 ∷ 40 ∷ 41 ∷ 42 ∷ []) (lit< tt) refl refl
+
+pub free-set : (k : ℕ) → eqb (digit 2 6144 k) 1 ≡ among k (11 ∷ 12 ∷ [])
+unfolding among flag tabulate digit
+free-set = set-among 6144 (11 ∷ 12 ∷ []) (lit< tt) refl refl
+
+-- a test by a set, as a fact of the opcode
+pub tested : {r x y t : Bool} → r ≡ x → x ≡ y → r ≡ t → y ≡ t
+tested a b c = sym b ∙ sym a ∙ c
 
 -- ---- operands
 

@@ -2,113 +2,41 @@
 ghost use mathlib.Core.Path.{_≡_};
 ghost use Prim.Native.Nat.{_+_};
 ghost use lib.Dec.{eqb};
+ghost use Rattle.word.specs.Sum.{digit};
 ghost use Rattle.arithmetic.specs.Operands.{unary, divides, sizesAgree};
 use integer::boolean::both;
 use integer::boolean::either;
 
-// By opcode, 0 to 42: 1 where the operation has no input1.
-const UNARY: [u8; 43] = [
-    0,
-    0,
-    0,
-    0,
-    0,
-    0,
-    0,
-    0,
-    0,
-    0,
-    0,
-    0,
-    1,
-    0,
-    0,
-    0,
-    0,
-    0,
-    0,
-    1,
-    1,
-    0,
-    0,
-    0,
-    0,
-    0,
-    1,
-    1,
-    0,
-    0,
-    0,
-    0,
-    0,
-    0,
-    0,
-    0,
-    0,
-    0,
-    0,
-    1,
-    0,
-    0,
-    0,
-];
+// A set of opcodes is a word: the bit that counts 2^opcode is 1. A table would be built anew at every look-up.
+pub fn member(set: u64, opcode: u64) -> bool
+    ensures { λ r. ⌜ r ≡ eqb (digit 2 set opcode) 1 ⌝ }
+{
+    if 63 < opcode {
+        return false;
+    }
+    (set >> opcode) % 2 == 1
+}
 
-// By opcode, 0 to 42: the sentence of rule 25 that it falls under, counted in the definition's order.
-const SIZE_SENTENCE: [u8; 43] = [
-    0,
-    0,
-    0,
-    0,
-    0,
-    0,
-    0,
-    0,
-    0,
-    0,
-    6,
-    7,
-    7,
-    3,
-    3,
-    3,
-    3,
-    3,
-    3,
-    4,
-    4,
-    2,
-    2,
-    3,
-    3,
-    3,
-    1,
-    1,
-    2,
-    2,
-    2,
-    1,
-    1,
-    1,
-    2,
-    2,
-    2,
-    2,
-    2,
-    5,
-    5,
-    5,
-    5,
-];
+const UNARY: u64 = 0b10000000_00001100_00011000_00010000_00000000;
+
+// The sentences of rule 25, in the definition's order, but for PIECE.
+const SIZE_KEPT: u64 = 0b11_10001100_00000000_00000000_00000000;
+
+const SIZES_EQUAL: u64 = 0b1111100_01110000_01100000_00000000_00000000;
+
+const COMPARISONS: u64 = 0b11_10000111_11100000_00000000;
+
+const EXTENSIONS: u64 = 0b11000_00000000_00000000;
+
+const BOOLEANS: u64 = 0b111_10000000_00000000_00000000_00000000_00000000;
+
+const SIZES_FREE: u64 = 0b11000_00000000;
 
 // The operation has no input1.
 pub fn is_unary(opcode: u64) -> bool
     ensures { λ r. ⌜ r ≡ unary opcode ⌝ }
 {
-    if 42 < opcode {
-        return false;
-    }
-    let i = opcode as usize;
-    UNARY[i] == 1
+    member(UNARY, opcode)
 }
 
 // The operation divides by input1.
@@ -122,23 +50,23 @@ pub fn is_division(opcode: u64) -> bool
 pub fn sizes_agree(opcode: u64, size: u64, size0: u64, size1: u64) -> bool
     ensures { λ r. ⌜ r ≡ sizesAgree opcode size size0 size1 ⌝ }
 {
-    if 42 < opcode {
-        return false;
-    }
-    let i = opcode as usize;
-    let sentence = SIZE_SENTENCE[i];
-    match sentence {
-        1 => size0 == size,
-        2 => both(size0 == size, size1 == size),
-        3 => both(size1 == size0, size == 1),
-        4 => size0 < size,
-        5 => both(
+    if member(SIZE_KEPT, opcode) {
+        size0 == size
+    } else if member(SIZES_EQUAL, opcode) {
+        both(size0 == size, size1 == size)
+    } else if member(COMPARISONS, opcode) {
+        both(size1 == size0, size == 1)
+    } else if member(EXTENSIONS, opcode) {
+        size0 < size
+    } else if member(BOOLEANS, opcode) {
+        both(
             both(size0 == 1, either(is_unary(opcode), size1 == 1)),
             size == 1,
-        ),
-        6 => add_up(size0, size1, size),
-        7 => true,
-        _ => false,
+        )
+    } else if opcode == 10 {
+        add_up(size0, size1, size)
+    } else {
+        member(SIZES_FREE, opcode)
     }
 }
 

@@ -2,6 +2,7 @@
 // changes no buffer.
 ghost use mathlib.Core.Path.{_≡_};
 ghost use mathlib.Core.Bool.{cond};
+ghost use Prim.Native.Nat.{_+_, _≤_};
 ghost use lib.Dec.{eqb};
 ghost use lib.ListN.{length, set};
 ghost use lib.Seq.{sets};
@@ -36,8 +37,20 @@ pub fn gather(order: u64, bytes: &[u8], offset: u64, size: u64, out: &mut [u64])
     if fault != 0 {
         return fault;
     }
-    out[0] = word::bytes::gather(order == 1, bytes, offset as usize, size as usize);
+    out[0] = value_of(order == 1, bytes, offset as usize, size as usize);
     0
+}
+
+// The value of some bytes. The order is a constant of each call: so `gather` is compiled into its callers, and no function of its own.
+fn value_of(big: bool, bytes: &[u8], at: usize, size: usize) -> u64
+    requires { ⌜ (size ≤ 8) × (at + size ≤ length (now bytes)) ⌝ }
+    ensures { λ r. ⌜ r ≡ valueOf big (part (now (bytes .entry)) at size) ⌝ }
+{
+    if big {
+        word::bytes::gather(true, bytes, at, size)
+    } else {
+        word::bytes::gather(false, bytes, at, size)
+    }
 }
 
 pub fn scatter(order: u64, bytes: &mut [u8], offset: u64, size: u64, value: u64) -> u64

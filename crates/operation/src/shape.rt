@@ -1,129 +1,26 @@
 // Which varnodes each operation has.
 ghost use mathlib.Core.Path.{_≡_};
-ghost use Rattle.operation.specs.Shapes.{outputs, inputs, hasPlace};
-use super::layout::LAST_OPCODE;
+ghost use Rattle.operation.specs.Shapes.{hasPlace};
+use arithmetic::operands::member;
 
-// By opcode, 0 to the last.
-const OUTPUTS: [u8; 43] = [
-    0,
-    1,
-    1,
-    0,
-    0,
-    0,
-    0,
-    0,
-    0,
-    0,
-    1,
-    1,
-    1,
-    1,
-    1,
-    1,
-    1,
-    1,
-    1,
-    1,
-    1,
-    1,
-    1,
-    1,
-    1,
-    1,
-    1,
-    1,
-    1,
-    1,
-    1,
-    1,
-    1,
-    1,
-    1,
-    1,
-    1,
-    1,
-    1,
-    1,
-    1,
-    1,
-    1,
-];
+// The operations that have a varnode at a place, as sets of opcodes.
+const WITH_OUTPUT: u64 = 0b111_11111111_11111111_11111111_11111100_00000110;
 
-const INPUTS: [u8; 43] = [
-    0,
-    1,
-    2,
-    3,
-    1,
-    2,
-    1,
-    1,
-    1,
-    1,
-    2,
-    2,
-    1,
-    2,
-    2,
-    2,
-    2,
-    2,
-    2,
-    1,
-    1,
-    2,
-    2,
-    2,
-    2,
-    2,
-    1,
-    1,
-    2,
-    2,
-    2,
-    2,
-    2,
-    2,
-    2,
-    2,
-    2,
-    2,
-    2,
-    1,
-    2,
-    2,
-    2,
-];
+const WITH_INPUT0: u64 = 0b111_11111111_11111111_11111111_11111111_11111110;
 
-// The number of outputs of an operation, 0 or 1.
-fn outputs(opcode: u64) -> u8
-    ensures { λ r. ⌜ r ≡ outputs opcode ⌝ }
-{
-    if LAST_OPCODE < opcode {
-        return 0;
-    }
-    let i = opcode as usize;
-    OUTPUTS[i]
-}
+const WITH_INPUT1: u64 = 0b111_01111111_11110011_11100111_11101100_00101100;
 
-// The number of inputs of an operation.
-fn inputs(opcode: u64) -> u8
-    ensures { λ r. ⌜ r ≡ inputs opcode ⌝ }
-{
-    if LAST_OPCODE < opcode {
-        return 0;
-    }
-    let i = opcode as usize;
-    INPUTS[i]
-}
+const WITH_INPUT2: u64 = 0b1000;
 
 // The operation has a varnode at a place.
 pub fn has_place(opcode: u64, place: u8) -> bool
     ensures { λ r. ⌜ r ≡ hasPlace opcode place ⌝ }
 {
-    if place == 0 {
-        return 1 <= outputs(opcode);
+    match place {
+        0 => member(WITH_OUTPUT, opcode),
+        1 => member(WITH_INPUT0, opcode),
+        2 => member(WITH_INPUT1, opcode),
+        3 => member(WITH_INPUT2, opcode),
+        _ => false,
     }
-    place <= inputs(opcode)
 }

@@ -1,6 +1,7 @@
 // What is refused before anything runs.
 ghost use mathlib.Core.Path.{_≡_};
 ghost use mathlib.Core.Bool.{true};
+ghost use Prim.Native.Nat.{max};
 ghost use Rattle.machine.specs.Memory.{spaces, lengthsOf};
 ghost use Rattle.machine.specs.Calls.{sameLengths, allLabels, labelsInRange, refusal};
 use operation::layout::Lengths;
@@ -130,16 +131,21 @@ fn labels_in_range(unique: &[u8], register: &[u8], ram: &[u8]) -> bool
     all_labels(ram)
 }
 
-// Each label is 0 or 1.
+// Each label is 0 or 1: so the largest is. A loop that left at the first other one would take one label at a time.
 fn all_labels(labels: &[u8]) -> bool
     ensures { λ r. ⌜ r ≡ allLabels (now (labels .entry)) ⌝ }
 {
+    let mut most: u8 = 0;
     let mut i: usize = 0;
     while i < labels.len() {
-        if 1 < labels[i] {
-            return false;
-        }
+        most = larger(most, labels[i]);
         i = i + 1;
     }
-    true
+    most <= 1
+}
+
+fn larger(a: u8, b: u8) -> u8
+    ensures { λ r. ⌜ r ≡ max a b ⌝ }
+{
+    if a < b { b } else { a }
 }

@@ -14,8 +14,8 @@ of-gather-requires c κs = search needs
 returns : tie.Need-returns
 returns c = (c .before .of-gather .ensures, rw (ne-eqb (c .before .of-gather .result) 0 (c .if1 .taken)))
 
-gather-requires : tie.Need-gather-requires
-gather-requires c κs =
+value-of-requires : tie.Need-value-of-requires
+value-of-requires c κs =
     let p = gather-passed _ _ _ _ _ (sym (c .before .of-gather .ensures) ∙ c .if1 .left) in
     (p .1, p .2)
 
@@ -28,10 +28,10 @@ same-length c = search needs
 returns-2 : tie.Need-returns-2
 returns-2 c = (
   sym (c .before .if1 .left) ∙ c .before .before .of-gather .ensures,
-  ap (λ (v : ℕ). set (c .before .before .before .before .before .args .out .now) 0 v) (c .gather .ensures),
+  ap (λ (v : ℕ). set (c .before .before .before .before .before .args .out .now) 0 v) (c .value-of .ensures),
 )
 
 pub gather-spec : {M : Type 1} → statement M
 gather-spec =
     tie.close
-    (tie.spec of-gather-requires returns gather-requires slice-write-out same-length returns-2)
+    (tie.spec of-gather-requires returns value-of-requires slice-write-out same-length returns-2)

@@ -1,28 +1,32 @@
--- `refusal::all_labels` meets its contract. The loop's invariant: each label passed is 0 or 1. Assumes nothing.
+-- `refusal::all_labels` meets its contract. The loop's invariant: no label passed is above `most`, and `most` is above 1 only where a
+-- label is. Assumes nothing.
 use Prim.Native.Nat.{ℕ, _-_, _≤_, _<_}
-use mathlib.Core.Path.{sym}
+use mathlib.Core.Bool.{false}
+use mathlib.Core.Path.{_≡_}
+use native.Mathlib.Numerals.{add-one}
 use native.Mathlib.Omega.{arith}
-use borrow.Author.Count.{below-more}
 use borrow.Author.Needs.{needs}
 use lib.ListN.{length, getD}
-use Rattle.refusal.proofs.Labels.{all-in-range, one-above}
+use Rattle.machine.specs.Calls.{allLabels}
+use Rattle.refusal.proofs.Labels.{largest-tells, more-low, more-high}
 use Rattle.refusal.proofs.all_labels.Statement.{statement}
 use Rattle.refusal.proofs.all_labels.Tie as tie
 
 abbrev Inv-loop : tie.InvT-loop
-Inv-loop labels i₀ i = (i ≤ length labels) × ((k : ℕ) → k < i → getD labels k 0 ≤ 1)
+Inv-loop labels most₀ i₀ most i =
+    (i ≤ length labels) × ((k : ℕ) → k < i → getD labels k 0 ≤ most) × (1 < most → allLabels labels ≡ false)
 
 abbrev μ-loop : tie.MeasureT-loop
-μ-loop labels i₀ i = length labels - i
+μ-loop labels most₀ i₀ most i = length labels - i
 
 loop-holds : tie.Need-loop-holds Inv-loop μ-loop
-loop-holds c = search needs
+loop-holds c = (omega arith, (λ k h. absurd (let z : ⊥ = omega arith in z)), (λ h. absurd (let z : ⊥ = omega arith in z)))
 
-shared-slice-read-if1 : tie.Need-shared-slice-read-if1 Inv-loop μ-loop
-shared-slice-read-if1 c = omega arith
+shared-slice-read-larger : tie.Need-shared-slice-read-larger Inv-loop μ-loop
+shared-slice-read-larger c = omega arith
 
-returns : tie.Need-returns Inv-loop μ-loop
-returns c = sym (one-above (c .before .before .before .before .args .labels .now) (c .before .before .before .loop .i) (omega arith) (c .if1 .taken))
+larger-requires : tie.Need-larger-requires Inv-loop μ-loop
+larger-requires c κs = search needs
 
 add-i : tie.Need-add-i Inv-loop μ-loop
 add-i c = omega arith
@@ -31,10 +35,19 @@ loop-less : tie.Need-loop-less Inv-loop μ-loop
 loop-less c = omega arith
 
 loop-again : tie.Need-loop-again Inv-loop μ-loop
-loop-again c = (omega arith, below-more _ _ (c .before .before .before .loop .inv .1) (c .if1 .left))
+loop-again c =
+    let at-loop = c .before .before .before in
+    let labels = at-loop .before .before .args .labels .now in
+    let l = at-loop .loop in
+    let h : l .i < length labels = omega arith in
+    rw (add-one, c .larger .ensures)
+    (omega arith, more-low labels (l .most) (l .i) h (l .inv .1) (l .inv .2), more-high labels (l .most) (l .i) h (l .inv .1) (l .inv .2))
 
-returns-2 : tie.Need-returns-2 Inv-loop μ-loop
-returns-2 c = sym (all-in-range (c .before .before .args .labels .now) (λ k h. c .before .loop .inv .1 k (omega arith)))
+returns : tie.Need-returns Inv-loop μ-loop
+returns c =
+    let labels = c .before .before .before .args .labels .now in
+    let l = c .before .loop in
+    largest-tells labels (l .most) (λ k h. l .inv .1 k (omega arith)) (l .inv .2)
 
 pub all-labels-spec : {M : Type 1} → statement M
 all-labels-spec =
@@ -43,9 +56,9 @@ all-labels-spec =
     Inv-loop
     μ-loop
     loop-holds
-    shared-slice-read-if1
-    returns
+    shared-slice-read-larger
+    larger-requires
     add-i
     loop-less
     loop-again
-    returns-2)
+    returns)

@@ -1,29 +1,107 @@
 -- `arithmetic::operands::sizes_agree` meets its contract. Assumes nothing.
-use Prim.Native.Nat.{_<_}
-use mathlib.Core.Bool.{Bool, _&&_, _||_}
-use mathlib.Core.Path.{refl, ap, _∙_}
+use Prim.Native.Nat.{ℕ}
+use mathlib.Core.Path.{_≡_, refl, _∙_}
+use mathlib.Core.Bool.{true, false}
+use mathlib.Core.List.{[], _∷_}
 use borrow.Author.Needs.{needs}
-use lib.Dec.{eqb}
-use Rattle.arithmetic.proofs.Agreement.{not-among, sentence, said, as-said, nothing-said, looked-up}
-use Rattle.arithmetic.specs.Operands.{among, unary, sizesAgree}
-use Rattle.word.specs.Sum.{tabulate}
+use borrow.Author.Tests.{eq-eqb, ne-eqb}
+use Rattle.arithmetic.proofs.Agreement.{kept-set, equal-set, compared-set, extended-set, boolean-set, free-set, tested}
+use Rattle.arithmetic.specs.Operands.{among, sizesAgree}
 use Rattle.arithmetic.proofs.operands.sizes_agree.Statement.{statement}
 use Rattle.arithmetic.proofs.operands.sizes_agree.Tie as tie
+use Rattle.arithmetic.proofs.operands.sizes_agree.Reads as reads
+use Rattle.arithmetic.proofs.operands.sizes_agree.Lts as lts
+use Rattle.arithmetic.proofs.operands.member.Reads as member-reads
+use Rattle.integer.proofs.boolean.both.Reads as both-reads
+use Rattle.arithmetic.proofs.operands.is_unary.Reads as is-unary-reads
+use Rattle.integer.proofs.boolean.either.Reads as either-reads
+use Rattle.arithmetic.proofs.operands.add_up.Reads as add-up-reads
 
-returns : tie.Need-returns
-unfolding sizesAgree unary
-returns c =
-    let h : 42 < c .before .args .opcode = c .if1 .taken in
-    simp (not-among (c .before .args .opcode) 42)
+abbrev calls : lts.Claims
+calls = (
+  member-reads.Asked,
+  member-reads.Learnt,
+  both-reads.Asked,
+  both-reads.Learnt,
+  is-unary-reads.Asked,
+  is-unary-reads.Learnt,
+  either-reads.Asked,
+  either-reads.Learnt,
+  add-up-reads.Asked,
+  add-up-reads.Learnt,
+)
 
-array-read-sentence : tie.Need-array-read-sentence
-array-read-sentence c = search needs
+-- ---- the opcode, at each test
+
+abbrev opcode1 : lts.After-member calls reads.Pre reads.Post → ℕ
+opcode1 c = c .before .args .opcode
+
+abbrev opcode2 : lts.After-member2 calls reads.Pre reads.Post → ℕ
+opcode2 c = opcode1 (c .before .before)
+
+abbrev opcode3 : lts.After-member3 calls reads.Pre reads.Post → ℕ
+opcode3 c = opcode2 (c .before .before)
+
+abbrev opcode4 : lts.After-member4 calls reads.Pre reads.Post → ℕ
+opcode4 c = opcode3 (c .before .before)
+
+abbrev opcode5 : lts.After-member5 calls reads.Pre reads.Post → ℕ
+opcode5 c = opcode4 (c .before .before)
+
+-- ---- the sentence of rule 25 that was found, and those passed
+
+kept : (c : lts.Then1 calls reads.Pre reads.Post) → among (opcode1 (c .before)) (26 ∷ 27 ∷ 31 ∷ 32 ∷ 33 ∷ []) ≡ true
+kept c = tested (c .before .member .ensures) (kept-set _) (c .if1 .taken)
+
+not-kept : (c : lts.Else1 calls reads.Pre reads.Post) → among (opcode1 (c .before)) (26 ∷ 27 ∷ 31 ∷ 32 ∷ 33 ∷ []) ≡ false
+not-kept c = tested (c .before .member .ensures) (kept-set _) (c .if1 .left)
+
+equal : (c : lts.Then2 calls reads.Pre reads.Post) → among (opcode2 (c .before)) (21 ∷ 22 ∷ 34 ∷ 35 ∷ 37 ∷ 36 ∷ 38 ∷ 28 ∷ 29 ∷ 30 ∷ []) ≡ true
+equal c = tested (c .before .member2 .ensures) (equal-set _) (c .if2 .taken)
+
+not-equal : (c : lts.Else2 calls reads.Pre reads.Post) → among (opcode2 (c .before)) (21 ∷ 22 ∷ 34 ∷ 35 ∷ 37 ∷ 36 ∷ 38 ∷ 28 ∷ 29 ∷ 30 ∷ []) ≡ false
+not-equal c = tested (c .before .member2 .ensures) (equal-set _) (c .if2 .left)
+
+compared : (c : lts.Then3 calls reads.Pre reads.Post) → among (opcode3 (c .before)) (13 ∷ 14 ∷ 15 ∷ 16 ∷ 17 ∷ 18 ∷ 23 ∷ 24 ∷ 25 ∷ []) ≡ true
+compared c = tested (c .before .member3 .ensures) (compared-set _) (c .if3 .taken)
+
+not-compared : (c : lts.Else3 calls reads.Pre reads.Post) → among (opcode3 (c .before)) (13 ∷ 14 ∷ 15 ∷ 16 ∷ 17 ∷ 18 ∷ 23 ∷ 24 ∷ 25 ∷ []) ≡ false
+not-compared c = tested (c .before .member3 .ensures) (compared-set _) (c .if3 .left)
+
+extended : (c : lts.Then4 calls reads.Pre reads.Post) → among (opcode4 (c .before)) (19 ∷ 20 ∷ []) ≡ true
+extended c = tested (c .before .member4 .ensures) (extended-set _) (c .if4 .taken)
+
+not-extended : (c : lts.Else4 calls reads.Pre reads.Post) → among (opcode4 (c .before)) (19 ∷ 20 ∷ []) ≡ false
+not-extended c = tested (c .before .member4 .ensures) (extended-set _) (c .if4 .left)
+
+boolean : (c : lts.Then5 calls reads.Pre reads.Post) → among (opcode5 (c .before)) (39 ∷ 40 ∷ 41 ∷ 42 ∷ []) ≡ true
+boolean c = tested (c .before .member5 .ensures) (boolean-set _) (c .if5 .taken)
+
+not-boolean : (c : lts.Else5 calls reads.Pre reads.Post) → among (opcode5 (c .before)) (39 ∷ 40 ∷ 41 ∷ 42 ∷ []) ≡ false
+not-boolean c = tested (c .before .member5 .ensures) (boolean-set _) (c .if5 .left)
+
+-- ---- what the function needs
+
+member-requires : tie.Need-member-requires
+member-requires c κs = search needs
+
+member-requires-2 : tie.Need-member-requires-2
+member-requires-2 c κs = search needs
 
 both-requires : tie.Need-both-requires
 both-requires c κs = search needs
 
+member-requires-3 : tie.Need-member-requires-3
+member-requires-3 c κs = search needs
+
 both-requires-2 : tie.Need-both-requires-2
 both-requires-2 c κs = search needs
+
+member-requires-4 : tie.Need-member-requires-4
+member-requires-4 c κs = search needs
+
+member-requires-5 : tie.Need-member-requires-5
+member-requires-5 c κs = search needs
 
 is-unary-requires : tie.Need-is-unary-requires
 is-unary-requires c κs = search needs
@@ -40,60 +118,91 @@ both-requires-4 c κs = search needs
 add-up-requires : tie.Need-add-up-requires
 add-up-requires c κs = search needs
 
+member-requires-6 : tie.Need-member-requires-6
+member-requires-6 c κs = search needs
+
+returns : tie.Need-returns
+unfolding sizesAgree
+returns c = rw (kept c) refl
+
 returns-2 : tie.Need-returns-2
-unfolding tabulate sentence among said
-returns-2 c = as-said _ 1 _ _ _ (looked-up (c .before .before .args .opcode) 1 (search needs) (c .match .keys1))
+unfolding sizesAgree
+returns-2 c =
+    let found = c .before in
+    let past1 = found .before .before in
+    c .both .ensures ∙ rw (not-kept past1, equal found) refl
 
 returns-3 : tie.Need-returns-3
-unfolding tabulate sentence among said
-returns-3 c = c .both .ensures ∙ as-said _ 2 _ _ _ (looked-up (c .before .before .before .args .opcode) 2 (search needs) (c .before .match .keys2))
+unfolding sizesAgree
+returns-3 c =
+    let found = c .before in
+    let past2 = found .before .before in
+    let past1 = past2 .before .before in
+    c .both2 .ensures ∙ rw (not-kept past1, not-equal past2, compared found) refl
 
 returns-4 : tie.Need-returns-4
-unfolding tabulate sentence among said
-returns-4 c = c .both2 .ensures ∙ as-said _ 3 _ _ _ (looked-up (c .before .before .before .args .opcode) 3 (search needs) (c .before .match .keys3))
+unfolding sizesAgree
+returns-4 c =
+    let past3 = c .before .before in
+    let past2 = past3 .before .before in
+    let past1 = past2 .before .before in
+    rw (not-kept past1, not-equal past2, not-compared past3, extended c) refl
 
 returns-5 : tie.Need-returns-5
-unfolding tabulate sentence among said
-returns-5 c = as-said _ 4 _ _ _ (looked-up (c .before .before .args .opcode) 4 (search needs) (c .match .keys4))
+unfolding sizesAgree
+returns-5 c =
+    let found = c .before .before .before .before in
+    let past4 = found .before .before in
+    let past3 = past4 .before .before in
+    let past2 = past3 .before .before in
+    let past1 = past2 .before .before in
+    c .both4 .ensures
+    ∙ rw (c .before .both3 .ensures, c .before .before .either .ensures, c .before .before .before .is-unary .ensures)
+    (rw (not-kept past1, not-equal past2, not-compared past3, not-extended past4, boolean found) refl)
 
 returns-6 : tie.Need-returns-6
-unfolding tabulate sentence among said
-returns-6 c = c .both4 .ensures ∙ ap (λ (t : Bool). t && eqb (c .before .before .before .before .before .before .args .size) 1) (c .before .both3 .ensures ∙ ap (λ (t : Bool). eqb (c .before .before .before .before .before .before .args .size0) 1 && t) (c .before .before .either .ensures ∙ ap (λ (t : Bool). t || eqb (c .before .before .before .before .before .before .args .size1) 1) (c .before .before .before .is-unary .ensures))) ∙ as-said _ 5 _ _ _ (looked-up (c .before .before .before .before .before .before .args .opcode) 5 (search needs) (c .before .before .before .before .match .keys5))
+unfolding sizesAgree among
+returns-6 c =
+    let past5 = c .before .before in
+    let past4 = past5 .before .before in
+    let past3 = past4 .before .before in
+    let past2 = past3 .before .before in
+    let past1 = past2 .before .before in
+    c .add-up .ensures
+    ∙ rw (not-kept past1, not-equal past2, not-compared past3, not-extended past4, not-boolean past5, eq-eqb _ 10 (c .before .if6 .taken)) refl
 
 returns-7 : tie.Need-returns-7
-unfolding tabulate sentence among said
-returns-7 c = c .add-up .ensures ∙ as-said _ 6 _ _ _ (looked-up (c .before .before .before .args .opcode) 6 (search needs) (c .before .match .keys6))
-
-returns-8 : tie.Need-returns-8
-unfolding tabulate sentence among said
-returns-8 c = as-said _ 7 _ _ _ (looked-up (c .before .before .args .opcode) 7 (search needs) (c .match .keys7))
-
-returns-9 : tie.Need-returns-9
-unfolding tabulate sentence among
-returns-9 c =
-    let a = c .before .before .args in
-    let r = c .match .rest in
-    nothing-said (unary (a .opcode)) _ (a .size) (a .size0) (a .size1) (r .0 .0 .0 .0 .0 .0 .1) (r .0 .0 .0 .0 .0 .1) (r .0 .0 .0 .0 .1) (r .0 .0 .0 .1) (r .0 .0 .1) (r .0 .1) (r .1)
-    ∙ as-said (a .opcode) _ (a .size) (a .size0) (a .size1) (looked-up (a .opcode) _ (search needs) refl)
+unfolding sizesAgree among
+returns-7 c =
+    let past5 = c .before .before in
+    let past4 = past5 .before .before in
+    let past3 = past4 .before .before in
+    let past2 = past3 .before .before in
+    let past1 = past2 .before .before in
+    c .member6 .ensures ∙ free-set _
+    ∙ rw (not-kept past1, not-equal past2, not-compared past3, not-extended past4, not-boolean past5, ne-eqb _ 10 (c .before .if6 .left)) refl
 
 pub sizes-agree-spec : {M : Type 1} → statement M
 sizes-agree-spec =
     tie.close
     (tie.spec
-    returns
-    array-read-sentence
+    member-requires
+    member-requires-2
     both-requires
+    member-requires-3
     both-requires-2
+    member-requires-4
+    member-requires-5
     is-unary-requires
     either-requires
     both-requires-3
     both-requires-4
     add-up-requires
+    member-requires-6
+    returns
     returns-2
     returns-3
     returns-4
     returns-5
     returns-6
-    returns-7
-    returns-8
-    returns-9)
+    returns-7)

@@ -1,25 +1,49 @@
 -- `operation::shape::has_place` meets its contract. Assumes nothing.
-use mathlib.Core.Path.{ap}
+use mathlib.Core.Path.{sym, ap, _∙_}
+use native.Mathlib.Omega.{arith}
 use borrow.Author.Needs.{needs}
-use borrow.Author.Tests.{eq-eqb, ne-eqb}
-use lib.Dec.{leb}
 use Rattle.operation.specs.Shapes.{hasPlace}
+use Rattle.operation.proofs.Tables.{place0-set, place1-set, place2-set, place3-set, no-place}
 use Rattle.operation.proofs.shape.has_place.Statement.{statement}
 use Rattle.operation.proofs.shape.has_place.Tie as tie
 
-outputs-requires : tie.Need-outputs-requires
-outputs-requires c κs = search needs
+member-requires : tie.Need-member-requires
+member-requires c κs = search needs
+
+member-requires-2 : tie.Need-member-requires-2
+member-requires-2 c κs = search needs
+
+member-requires-3 : tie.Need-member-requires-3
+member-requires-3 c κs = search needs
+
+member-requires-4 : tie.Need-member-requires-4
+member-requires-4 c κs = search needs
 
 returns : tie.Need-returns
-unfolding hasPlace
-returns c = rw (eq-eqb _ 0 (c .before .if1 .taken)) (ap (leb 1) (c .outputs .ensures))
-
-inputs-requires : tie.Need-inputs-requires
-inputs-requires c κs = search needs
+returns c = c .member .ensures ∙ place0-set _ ∙ ap (hasPlace _) (sym (c .before .match .keys1))
 
 returns-2 : tie.Need-returns-2
-unfolding hasPlace
-returns-2 c = rw (ne-eqb _ 0 (c .before .if1 .left)) (ap (leb (c .before .before .args .place)) (c .inputs .ensures))
+returns-2 c = c .member2 .ensures ∙ place1-set _ ∙ ap (hasPlace _) (sym (c .before .match .keys2))
+
+returns-3 : tie.Need-returns-3
+returns-3 c = c .member3 .ensures ∙ place2-set _ ∙ ap (hasPlace _) (sym (c .before .match .keys3))
+
+returns-4 : tie.Need-returns-4
+returns-4 c = c .member4 .ensures ∙ place3-set _ ∙ ap (hasPlace _) (sym (c .before .match .keys4))
+
+returns-5 : tie.Need-returns-5
+returns-5 c = sym (no-place _ _ (omega arith))
 
 pub has-place-spec : {M : Type 1} → statement M
-has-place-spec = tie.close (tie.spec outputs-requires returns inputs-requires returns-2)
+has-place-spec =
+    tie.close
+    (tie.spec
+    member-requires
+    member-requires-2
+    member-requires-3
+    member-requires-4
+    returns
+    returns-2
+    returns-3
+    returns-4
+    returns-5)

@@ -1,0 +1,47 @@
+//! Checks that the archive is compiled as it was measured: what every operation goes through is compiled into the run's loop.
+//!
+//! The compiler inlines a function that has one caller, or that is small. Where a change gives one of them a second caller, or
+//! makes it larger, it becomes a function of its own in the archive, and each operation pays for a call of it.
+
+use std::env;
+use std::path::Path;
+use std::process::Command;
+
+/// The crates of which no function is to be found in the archive.
+const INLINED: [&str; 6] = ["integer", "word", "memory", "plan", "execution", "taint"];
+
+/// A function that is in the archive, called once a run. Without it the names are not those that this test knows.
+const LOOP: &str = "labelled::run_any";
+
+#[test]
+fn no_function_of_the_loop_is_called() {
+    let names = functions();
+    assert!(names.iter().any(|name| name == LOOP), "the archive has no {LOOP}, but:\n{names:#?}");
+    let called: Vec<&String> = names
+        .iter()
+        .filter(|name| name.split_once("::").is_some_and(|(krate, _)| INLINED.contains(&krate)))
+        .collect();
+    assert!(
+        called.is_empty(),
+        "these are called for each operation, and were inlined before: {called:?}\n\
+         benchmarks/README.md says how to see what that costs, and docs/changes/A6.md why they are as they are"
+    );
+}
+
+/// The names of the archive's functions, by nm.
+fn functions() -> Vec<String> {
+    let package = env::var("CARGO_MANIFEST_DIR").expect("cargo names the package's directory");
+    let archive = Path::new(&package).join("../target/staticlib/libexports.a");
+    let output =
+        Command::new("nm").arg(archive).output().expect("nm runs: it is one of cc's binutils");
+    assert!(output.status.success(), "nm cannot read the archive");
+    let text = String::from_utf8(output.stdout).expect("names are text");
+    // Lines such as '0000000000000000 t labelled::run_any'.
+    text.lines()
+        .filter_map(|line| {
+            let mut words = line.splitn(3, ' ').skip(1);
+            let kind = words.next()?;
+            words.next().filter(|_| kind.eq_ignore_ascii_case("t")).map(str::to_string)
+        })
+        .collect()
+}

@@ -1,0 +1,121 @@
+//! Instructions of the runs, counted by valgrind's callgrind: unlike times, they do not depend on
+//! where the code lies or on what else the machine does.
+
+use std::env;
+use std::hint::black_box;
+use std::process::Command;
+
+use crate::library::{Labels, Program, State};
+use crate::loops::{loops, straight};
+use crate::{run, Kind};
+
+/// Two budgets: the difference of their counts has no part of the call's own cost.
+const BUDGETS: [u32; 2] = [5_000, 15_000];
+
+/// Prints the instructions of an operation in each loop, and how the cost of a call grows.
+pub fn print() -> Result<(), String> {
+    println!("instructions an operation (callgrind)");
+    println!("loop      size  order    plain   Rust  labelled");
+    for (number, timed) in loops(0).iter().enumerate() {
+        print!("{:<8}  {:>4}  {:<6}", timed.name, timed.size, timed.order_name());
+        for (kind, width) in [("plain", 7), ("rust", 7), ("labelled", 10)] {
+            let count =
+                |budget: u32| counted(&["loop", kind, &number.to_string(), &budget.to_string()]);
+            print!("{:width$.1}", slope(BUDGETS, count)?);
+        }
+        println!();
+    }
+    println!("what a call costs before its first operation, in instructions");
+    const FEW_AND_MANY: [u32; 2] = [1_000, 4_000];
+    for kind in ["plain", "labelled"] {
+        let count =
+            |list: u32, ram: u32| counted(&["straight", kind, &list.to_string(), &ram.to_string()]);
+        println!("{kind}: empty list and ram {}", count(0, 0)?);
+        println!(
+            "{kind}: an operation of the list {:.1}",
+            slope(FEW_AND_MANY, |list| count(list, 0))?
+        );
+        println!("{kind}: a byte of ram {:.2}", slope(FEW_AND_MANY, |ram| count(0, ram))?);
+    }
+    Ok(())
+}
+
+/// What one more costs.
+fn slope([few, many]: [u32; 2], count: impl Fn(u32) -> Result<u64, String>) -> Result<f64, String> {
+    let more = count(many)?.saturating_sub(count(few)?);
+    Ok(more as f64 / f64::from(many - few))
+}
+
+/// The instructions of `counted_run` in a process of its own.
+fn counted(words: &[&str]) -> Result<u64, String> {
+    let program =
+        env::current_exe().map_err(|error| format!("its own file is not to be found: {error}"))?;
+    let output = Command::new("valgrind")
+        .args([
+            "--tool=callgrind",
+            "--callgrind-out-file=/dev/null",
+            "--toggle-collect=*counted_run*",
+        ])
+        .arg(program)
+        .arg("once")
+        .args(words)
+        .output()
+        .map_err(|error| {
+            format!(
+                "valgrind does not run ({error}): instructions are counted where it is installed"
+            )
+        })?;
+    let text = String::from_utf8_lossy(&output.stderr);
+    text.lines()
+        .find_map(|line| line.split_once("Collected : "))
+        .and_then(|(_, count)| count.trim().parse().ok())
+        .filter(|_| output.status.success())
+        .ok_or_else(|| format!("valgrind counted nothing for {words:?}:\n{text}"))
+}
+
+/// One run: a loop with a budget, or nothing of a straight list.
+pub fn once(words: &[&str]) -> Result<(), String> {
+    let number = |word: &str| word.parse::<u32>().map_err(|_| format!("'{word}' is no number"));
+    let kind_of = |word: &str| match word {
+        "rust" => Ok(Kind::Rust),
+        "plain" => Ok(Kind::Plain),
+        "labelled" => Ok(Kind::Labelled),
+        _ => Err(format!("'{word}' is no kind of run")),
+    };
+    match *words {
+        ["loop", kind, place, budget] => {
+            let budget = number(budget)?;
+            let mut loops = loops(budget);
+            let place = number(place)? as usize;
+            if place >= loops.len() {
+                return Err(format!("there is no loop {place}"));
+            }
+            let timed = loops.swap_remove(place);
+            run_once(kind_of(kind)?, &timed.program, budget, timed.state);
+        }
+        ["straight", kind, operations, ram_len] => {
+            let (program, state) =
+                straight(number(operations)? as usize, number(ram_len)? as usize);
+            run_once(kind_of(kind)?, &program, 0, state);
+        }
+        _ => return Err(format!("{words:?} is no run")),
+    }
+    Ok(())
+}
+
+fn run_once(kind: Kind, program: &Program, budget: u32, mut state: State) {
+    let mut labels = Labels::public(&state);
+    black_box(counted_run(kind, program, budget, &mut state, &mut labels));
+}
+
+/// What callgrind is told to count.
+#[inline(never)]
+fn counted_run(
+    kind: Kind,
+    program: &Program,
+    budget: u32,
+    state: &mut State,
+    labels: &mut Labels,
+) -> [u64; 5] {
+    run(kind, program, budget, state, labels)
+}
