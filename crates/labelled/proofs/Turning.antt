@@ -5,7 +5,7 @@ use native.Mathlib.Omega.{arith}
 use mathlib.Core.Path.{_≡_, refl, sym, ap, _∙_}
 use mathlib.Core.Bool.{Bool, true, false, cond, _&&_}
 use mathlib.Core.List.{List, []}
-use borrow.Author.Tests.{eqb-true, eqb-false, ltb-true, ltb-false}
+use borrow.Author.Tests.{eqb-true, eqb-false, lt-ltb, ltb-true, ltb-false}
 use lib.Dec.{eqb, ltb}
 use lib.ListN.{length}
 use Rattle.integer.proofs.Booleans.{both}
@@ -35,6 +35,7 @@ pub record Turning (labelled : Bool) (program : Program) (budget start from : �
   pub lengths : lengthsOf m ≡ lengthsOf m₀
   pub marks : lengthsOf labels ≡ lengthsOf labels₀
   pub logs : Log log₀ log k
+  pub turn : turnOf labelled (budget - executed) ≡ turnOf labelled budget
   pub same : run program (budget - executed) (position i k executed log) labels m ≡ run program budget (position start from 0 log₀) labels₀ m₀
 
 -- the loop begins with the whole run before it
@@ -49,6 +50,7 @@ begun labelled program budget start from log labels m v s l f = record {
   lengths = refl;
   marks = refl;
   logs = record { place = l; long = refl; rest = refl };
+  turn = rw sub-zero refl;
   same = rw sub-zero refl;
 }
 
@@ -66,7 +68,7 @@ module _ (labelled : Bool) (program : Program) (budget start from : ℕ) (log₀
       by false e = let h : left ≤ 0 = ltb-false 0 left e in omega arith
 
   -- what a turn asks for
-  pub may-turn : (most : ℕ) → most ≡ turnOf labelled left
+  pub may-turn : (most : ℕ) → most ≡ turnOf labelled budget
       → Valid (lengthsOf m) (program .list) × (i ≤ operationCount (program .list)) × (k ≤ length log) × Fitting labelled labels m × (labelled ≡ true → most ≤ 1)
   may-turn most em = (
     valid-with (g .lengths) (g .valid),
@@ -76,11 +78,14 @@ module _ (labelled : Bool) (program : Program) (budget start from : ℕ) (log₀
       lengths = λ t. g .marks ∙ g .fitting .lengths t ∙ sym (g .lengths);
       none = λ t. no-labels labels (g .marks ∙ ap lengthsOf (g .fitting .none t));
     },
-    λ t. rw em (turn-one t),
+    λ t. rw (em, ← g .turn) (turn-one t),
   )
 
-  module _ (most : ℕ) (em : most ≡ turnOf labelled left) (done : Report) (m′ labels′ : Memory) (log′ : List ℕ)
+  module _ (most : ℕ) (given : most ≡ turnOf labelled budget) (done : Report) (m′ labels′ : Memory) (log′ : List ℕ)
       (e : labelledOutcome done m′ labels′ log′ ≡ outcomeOf log (run program most (position i k 0 log) labels m)) where
+    em : most ≡ turnOf labelled left
+    em = given ∙ sym (g .turn)
+
     abbrev r : Ended
     r = run program most (position i k 0 log) labels m
 
@@ -207,6 +212,17 @@ module _ (labelled : Bool) (program : Program) (budget start from : ℕ) (log₀
           let t : 0 < most = rw em (turn-fits .1 h) in
           omega arith
 
+      -- a plain run has one turn; a labelled one has the same turn while some budget is left
+      same-turn : turnOf labelled (budget - (executed + done .executed)) ≡ turnOf labelled budget
+      unfolding turnOf
+      same-turn = by labelled refl
+        where
+          by : (t : Bool) → labelled ≡ t → turnOf labelled (budget - (executed + done .executed)) ≡ turnOf labelled budget
+          by true t =
+              let n = more in
+              rw (t, lt-ltb 0 (budget - (executed + done .executed)) (omega arith), lt-ltb 0 budget (omega arith)) refl
+          by false t = absurd (let whole : most ≡ left = em ∙ rw t refl in let a = all in let n = more in let z : ⊥ = omega arith in z)
+
       pub at-next : Turning labelled program budget start from log₀ labels₀ m₀ (done .index) (executed + done .executed) (done .logged) log′ labels′ m′
       at-next =
           let rest : left - most ≡ budget - (executed + done .executed) = let a = all in let s : executed ≤ budget = g .spent in omega arith in
@@ -221,5 +237,6 @@ module _ (labelled : Bool) (program : Program) (budget start from : ℕ) (log₀
             lengths = lengths-kept;
             marks = marks-kept;
             logs = logs-kept;
+            turn = same-turn;
             same = rw (is-labels, is-memory, ← here, ← rest) (back ∙ ap (laterEnded executed []) (sym on) ∙ sym counted ∙ g .same);
           }

@@ -53,11 +53,11 @@ pub fn run_any(
         (spaces (now («unique_labels» .entry)) (now («register_labels» .entry)) (now («ram_labels» .entry)))
         (spaces (now (unique .entry)) (now (register .entry)) (now (ram .entry)))) ⌝ }
 {
+    let most = turn(labelled, budget);
     let mut i = start;
     let mut k = from;
     let mut executed: u64 = 0;
     loop {
-        let most = turn(labelled, budget - executed);
         let done = step_at(
             labelled,
             settings,
@@ -123,11 +123,15 @@ pub fn one_operation(
     )
 }
 
-// The budget of a turn: one operation of what is left, or all of it.
-fn turn(labelled: bool, left: u64) -> u64
-    ensures { λ r. ⌜ r ≡ turnOf labelled left ⌝ }
+// The budget of each turn: one operation, or all of them. A labelled run that goes on has some budget left.
+fn turn(labelled: bool, budget: u64) -> u64
+    ensures { λ r. ⌜ r ≡ turnOf labelled budget ⌝ }
 {
-    if both(labelled, 0 < left) { 1 } else { left }
+    if both(labelled, 0 < budget) {
+        1
+    } else {
+        budget
+    }
 }
 
 // One turn, of at most one operation if it is labelled: LEAK, the operations, their labels.

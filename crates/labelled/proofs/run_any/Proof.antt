@@ -19,12 +19,12 @@ use Rattle.labelled.proofs.run_any.Tie as tie
 
 -- what is left to do from here is the whole run; u, r and m are the labels of unique, register and ram
 abbrev Inv-loop : tie.InvT-loop
-Inv-loop labelled settings list unique₀ register₀ ram₀ u₀ r₀ m₀ log₀ start from budget _ _ _ unique register ram u r m log i k executed =
+Inv-loop labelled settings list unique₀ register₀ ram₀ u₀ r₀ m₀ log₀ start from budget _ _ _ _ unique register ram u r m log i k executed =
     Turning labelled (programOf settings list) budget start from log₀ (spaces u₀ r₀ m₀) (spaces unique₀ register₀ ram₀)
     i executed k log (spaces u r m) (spaces unique register ram)
 
 abbrev μ-loop : tie.MeasureT-loop
-μ-loop labelled settings list _ _ _ _ _ _ log₀ start from budget _ _ _ _ _ _ _ _ _ log i k executed = budget - executed
+μ-loop labelled settings list _ _ _ _ _ _ log₀ start from budget _ _ _ _ _ _ _ _ _ _ log i k executed = budget - executed
 
 abbrev calls : lts.Claims
 calls = (
@@ -38,7 +38,7 @@ calls = (
   report-reads.Learnt,
 )
 
--- ---- places: after the turn, at its budget, at the start
+-- ---- places: after a turn, at the loop, at the start
 
 abbrev step-of : lts.After-struct-known calls reads.Pre reads.Post Inv-loop μ-loop → lts.After-step-at calls reads.Pre reads.Post Inv-loop μ-loop
 step-of c =
@@ -47,12 +47,12 @@ step-of c =
     let at-register = at-unique-labels .before .before .before .before in
     at-register .before .before .before
 
-abbrev turn-of : lts.After-step-at calls reads.Pre reads.Post Inv-loop μ-loop → lts.After-turn calls reads.Pre reads.Post Inv-loop μ-loop
-turn-of c =
+abbrev loop-of : lts.After-step-at calls reads.Pre reads.Post Inv-loop μ-loop → lts.At-loop calls reads.Pre reads.Post Inv-loop μ-loop
+loop-of c =
     let at-step-at-arg4 = c .before .before .before .before in
     at-step-at-arg4 .before .before .before .before
 
-abbrev entry-of : lts.After-turn calls reads.Pre reads.Post Inv-loop μ-loop → lts.Start calls reads.Pre reads.Post Inv-loop μ-loop
+abbrev entry-of : lts.At-loop calls reads.Pre reads.Post Inv-loop μ-loop → lts.Start calls reads.Pre reads.Post Inv-loop μ-loop
 entry-of c =
     let at-slice-known5 = c .before .before .before .before in
     let at-slice-known = at-slice-known5 .before .before .before .before in
@@ -60,33 +60,28 @@ entry-of c =
 
 -- ---- the needs
 
-loop-holds : tie.Need-loop-holds Inv-loop μ-loop
-loop-holds c =
-    let at-slice-known3 = c .before .before .before .before in
-    let entry = at-slice-known3 .before .before .before .before in
-    let pre = entry .pre in
-    begun _ _ _ _ _ _ _ _ (pre .0) (pre .1) (pre .2) (pre .3)
-
-sub-turn : tie.Need-sub-turn Inv-loop μ-loop
-sub-turn c =
-    c .loop .inv .spent
-
 turn-requires : tie.Need-turn-requires Inv-loop μ-loop
 turn-requires c κs = search needs
+
+loop-holds : tie.Need-loop-holds Inv-loop μ-loop
+loop-holds c =
+    let at-slice-known4 = c .before .before .before .before in
+    let at-shared-slice-known = at-slice-known4 .before .before .before .before in
+    let pre = at-shared-slice-known .before .pre in
+    begun _ _ _ _ _ _ _ _ (pre .0) (pre .1) (pre .2) (pre .3)
 
 step-at-requires : tie.Need-step-at-requires Inv-loop μ-loop
 step-at-requires c κs =
     let at-step-at-arg3 = c .before .before .before .before in
-    let at-turn = at-step-at-arg3 .before .before .before in
-    let at-loop = at-turn .before in
-    may-turn _ _ _ _ _ _ _ _ _ _ _ _ _ _ (at-loop .loop .inv) _ (at-turn .turn .ensures)
+    let at-loop = at-step-at-arg3 .before .before .before in
+    may-turn _ _ _ _ _ _ _ _ _ _ _ _ _ _ (at-loop .loop .inv) _ (at-loop .before .turn .ensures)
 
 add-executed : tie.Need-add-executed Inv-loop μ-loop
 add-executed c =
     let at-step = step-of (c) in
-    let at-turn = turn-of at-step in
-    let h = within _ _ _ _ _ _ _ _ _ _ _ _ _ _ (at-turn .before .loop .inv) _ (at-turn .turn .ensures) _ _ _ _ (at-step .step-at .ensures) in
-    omega (arith, entry-of at-turn .fits .budget)
+    let at-loop = loop-of at-step in
+    let h = within _ _ _ _ _ _ _ _ _ _ _ _ _ _ (at-loop .loop .inv) _ (at-loop .before .turn .ensures) _ _ _ _ (at-step .step-at .ensures) in
+    omega (arith, entry-of at-loop .fits .budget)
 
 both-requires : tie.Need-both-requires Inv-loop μ-loop
 both-requires c κs = search needs
@@ -98,69 +93,69 @@ same-length : tie.Need-same-length Inv-loop μ-loop
 unfolding lengthsOf
 same-length c =
     let at-step = step-of (c .before .before .before .before) in
-    let at-turn = turn-of at-step in
-    ap (λ (l : Lengths). l .unique) (lengths-kept _ _ _ _ _ _ _ _ _ _ _ _ _ _ (at-turn .before .loop .inv) _ (at-turn .turn .ensures) _ _ _ _ (at-step .step-at .ensures))
+    let at-loop = loop-of at-step in
+    ap (λ (l : Lengths). l .unique) (lengths-kept _ _ _ _ _ _ _ _ _ _ _ _ _ _ (at-loop .loop .inv) _ (at-loop .before .turn .ensures) _ _ _ _ (at-step .step-at .ensures))
 
 same-length-2 : tie.Need-same-length-2 Inv-loop μ-loop
 unfolding lengthsOf
 same-length-2 c =
     let at-step = step-of (c .before .before .before .before) in
-    let at-turn = turn-of at-step in
-    ap (λ (l : Lengths). l .register) (lengths-kept _ _ _ _ _ _ _ _ _ _ _ _ _ _ (at-turn .before .loop .inv) _ (at-turn .turn .ensures) _ _ _ _ (at-step .step-at .ensures))
+    let at-loop = loop-of at-step in
+    ap (λ (l : Lengths). l .register) (lengths-kept _ _ _ _ _ _ _ _ _ _ _ _ _ _ (at-loop .loop .inv) _ (at-loop .before .turn .ensures) _ _ _ _ (at-step .step-at .ensures))
 
 same-length-3 : tie.Need-same-length-3 Inv-loop μ-loop
 unfolding lengthsOf
 same-length-3 c =
     let at-step = step-of (c .before .before .before .before) in
-    let at-turn = turn-of at-step in
-    ap (λ (l : Lengths). l .ram) (lengths-kept _ _ _ _ _ _ _ _ _ _ _ _ _ _ (at-turn .before .loop .inv) _ (at-turn .turn .ensures) _ _ _ _ (at-step .step-at .ensures))
+    let at-loop = loop-of at-step in
+    ap (λ (l : Lengths). l .ram) (lengths-kept _ _ _ _ _ _ _ _ _ _ _ _ _ _ (at-loop .loop .inv) _ (at-loop .before .turn .ensures) _ _ _ _ (at-step .step-at .ensures))
 
 same-length-4 : tie.Need-same-length-4 Inv-loop μ-loop
 unfolding lengthsOf
 same-length-4 c =
     let at-step = step-of (c .before .before .before .before) in
-    let at-turn = turn-of at-step in
-    ap (λ (l : Lengths). l .unique) (marks-kept _ _ _ _ _ _ _ _ _ _ _ _ _ _ (at-turn .before .loop .inv) _ (at-turn .turn .ensures) _ _ _ _ (at-step .step-at .ensures))
+    let at-loop = loop-of at-step in
+    ap (λ (l : Lengths). l .unique) (marks-kept _ _ _ _ _ _ _ _ _ _ _ _ _ _ (at-loop .loop .inv) _ (at-loop .before .turn .ensures) _ _ _ _ (at-step .step-at .ensures))
 
 same-length-5 : tie.Need-same-length-5 Inv-loop μ-loop
 unfolding lengthsOf
 same-length-5 c =
     let at-step = step-of (c .before .before .before .before) in
-    let at-turn = turn-of at-step in
-    ap (λ (l : Lengths). l .register) (marks-kept _ _ _ _ _ _ _ _ _ _ _ _ _ _ (at-turn .before .loop .inv) _ (at-turn .turn .ensures) _ _ _ _ (at-step .step-at .ensures))
+    let at-loop = loop-of at-step in
+    ap (λ (l : Lengths). l .register) (marks-kept _ _ _ _ _ _ _ _ _ _ _ _ _ _ (at-loop .loop .inv) _ (at-loop .before .turn .ensures) _ _ _ _ (at-step .step-at .ensures))
 
 same-length-6 : tie.Need-same-length-6 Inv-loop μ-loop
 unfolding lengthsOf
 same-length-6 c =
     let at-step = step-of (c .before .before .before .before) in
-    let at-turn = turn-of at-step in
-    ap (λ (l : Lengths). l .ram) (marks-kept _ _ _ _ _ _ _ _ _ _ _ _ _ _ (at-turn .before .loop .inv) _ (at-turn .turn .ensures) _ _ _ _ (at-step .step-at .ensures))
+    let at-loop = loop-of at-step in
+    ap (λ (l : Lengths). l .ram) (marks-kept _ _ _ _ _ _ _ _ _ _ _ _ _ _ (at-loop .loop .inv) _ (at-loop .before .turn .ensures) _ _ _ _ (at-step .step-at .ensures))
 
 same-length-7 : tie.Need-same-length-7 Inv-loop μ-loop
 same-length-7 c =
     let at-step = step-of (c .before .before .before .before) in
-    let at-turn = turn-of at-step in
-    logs-kept _ _ _ _ _ _ _ _ _ _ _ _ _ _ (at-turn .before .loop .inv) _ (at-turn .turn .ensures) _ _ _ _ (at-step .step-at .ensures) .long
+    let at-loop = loop-of at-step in
+    logs-kept _ _ _ _ _ _ _ _ _ _ _ _ _ _ (at-loop .loop .inv) _ (at-loop .before .turn .ensures) _ _ _ _ (at-step .step-at .ensures) .long
 
 returns : tie.Need-returns Inv-loop μ-loop
 returns c =
     let at-step = step-of (c .before .before .before .before) in
-    let at-turn = turn-of at-step in
+    let at-loop = loop-of at-step in
     rw (c .report .ensures)
-    (at-ended _ _ _ _ _ _ _ _ _ _ _ _ _ _ (at-turn .before .loop .inv) _ (at-turn .turn .ensures) _ _ _ _ (at-step .step-at .ensures)
+    (at-ended _ _ _ _ _ _ _ _ _ _ _ _ _ _ (at-loop .loop .inv) _ (at-loop .before .turn .ensures) _ _ _ _ (at-step .step-at .ensures)
     (sym (c .before .before .both .ensures) ∙ not-true _ (c .before .if1 .taken)))
 
 loop-less : tie.Need-loop-less Inv-loop μ-loop
 loop-less c =
     let at-step = step-of (c .before .before .before) in
-    let at-turn = turn-of at-step in
-    fewer _ _ _ _ _ _ _ _ _ _ _ _ _ _ (at-turn .before .loop .inv) _ (at-turn .turn .ensures) _ _ _ _ (at-step .step-at .ensures) (sym (c .before .both .ensures) ∙ not-false _ (c .if1 .left))
+    let at-loop = loop-of at-step in
+    fewer _ _ _ _ _ _ _ _ _ _ _ _ _ _ (at-loop .loop .inv) _ (at-loop .before .turn .ensures) _ _ _ _ (at-step .step-at .ensures) (sym (c .before .both .ensures) ∙ not-false _ (c .if1 .left))
 
 loop-again : tie.Need-loop-again Inv-loop μ-loop
 loop-again c =
     let at-step = step-of (c .before .before .before) in
-    let at-turn = turn-of at-step in
-    at-next _ _ _ _ _ _ _ _ _ _ _ _ _ _ (at-turn .before .loop .inv) _ (at-turn .turn .ensures) _ _ _ _ (at-step .step-at .ensures) (sym (c .before .both .ensures) ∙ not-false _ (c .if1 .left))
+    let at-loop = loop-of at-step in
+    at-next _ _ _ _ _ _ _ _ _ _ _ _ _ _ (at-loop .loop .inv) _ (at-loop .before .turn .ensures) _ _ _ _ (at-step .step-at .ensures) (sym (c .before .both .ensures) ∙ not-false _ (c .if1 .left))
 
 pub run-any-spec : {M : Type 1} → statement M
 run-any-spec =
@@ -168,9 +163,8 @@ run-any-spec =
     (tie.spec
     Inv-loop
     μ-loop
-    loop-holds
-    sub-turn
     turn-requires
+    loop-holds
     step-at-requires
     add-executed
     both-requires
