@@ -5,7 +5,7 @@ use crate::library::{Program, State};
 /// A program and what it starts with.
 pub struct Loop {
     pub name: &'static str,
-    /// The size in bytes of every operand but the condition, and of an address.
+    /// The size in bytes of what is counted, copied and pointed with. A condition has 1.
     pub size: u64,
     pub program: Program,
     pub state: State,

@@ -1,6 +1,6 @@
 //! Times the proved interpreter against a plain one in safe Rust, on loops of one million operations.
 //!
-//! `cargo run --release` prints the times and their ratios, `cargo run --release instructions` counts
+//! `cargo run --release` prints the times and their ratios, `cargo run --release -- instructions` counts
 //! instructions; `cargo test --release` checks that both do the same, and that the archive is as it
 //! was measured.
 

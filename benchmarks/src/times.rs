@@ -13,7 +13,7 @@ const REPETITIONS: u32 = 25;
 /// Prints first what was asked for, at most twice the time of Rust on both loops, then all figures.
 pub fn print() {
     println!("{OPERATIONS} operations, the least time of {REPETITIONS} repetitions each");
-    let rows: Vec<(Loop, Times)> = loops(OPERATIONS).into_iter().map(timed).collect();
+    let rows: Vec<(Loop, Times)> = loops(OPERATIONS).into_iter().map(time_all).collect();
     for (timed, times) in &rows[..2] {
         println!(
             "plain / Rust, {} loop: {:.2} (to be at most 2.0)",
@@ -61,7 +61,7 @@ impl Times {
 }
 
 /// Times the three runs in turn, so that a slow moment of the machine meets all of them.
-fn timed(timed: Loop) -> (Loop, Times) {
+fn time_all(timed: Loop) -> (Loop, Times) {
     let mut least = Times { rust: Duration::MAX, plain: Duration::MAX, labelled: Duration::MAX };
     for _ in 0..REPETITIONS {
         least.plain = least.plain.min(time(Kind::Plain, &timed));

@@ -58,34 +58,62 @@ pub set-among : (set : ℕ) (l : List ℕ) → set < 2 ^ 64 → upTo 63 l ≡ tr
     → (k : ℕ) → eqb (digit 2 set k) 1 ≡ among k l
 set-among set l small up same = set-tells set (λ k. among k l) small (λ k h. not-among k 63 l up h) same
 
--- the sets of the code
-pub unary-set : (k : ℕ) → eqb (digit 2 549958717440 k) 1 ≡ among k (12 ∷ 19 ∷ 20 ∷ 26 ∷ 27 ∷ 39 ∷ [])
-unfolding among flag tabulate digit
-unary-set = set-among 549958717440 (12 ∷ 19 ∷ 20 ∷ 26 ∷ 27 ∷ 39 ∷ []) (lit< tt) refl refl
+-- the sets of the code: the opcodes of each, and that its bits tell them
+abbrev pub unaries : List ℕ
+unaries = 12 ∷ 19 ∷ 20 ∷ 26 ∷ 27 ∷ 39 ∷ []
 
-pub kept-set : (k : ℕ) → eqb (digit 2 15233712128 k) 1 ≡ among k (26 ∷ 27 ∷ 31 ∷ 32 ∷ 33 ∷ [])
+-- UNARY
+pub unary-set : (k : ℕ) → eqb (digit 2 549958717440 k) 1 ≡ among k unaries
 unfolding among flag tabulate digit
-kept-set = set-among 15233712128 (26 ∷ 27 ∷ 31 ∷ 32 ∷ 33 ∷ []) (lit< tt) refl refl
+unary-set = set-among 549958717440 unaries (lit< tt) refl refl
 
-pub equal-set : (k : ℕ) → eqb (digit 2 534461284352 k) 1 ≡ among k (21 ∷ 22 ∷ 34 ∷ 35 ∷ 37 ∷ 36 ∷ 38 ∷ 28 ∷ 29 ∷ 30 ∷ [])
-unfolding among flag tabulate digit
-equal-set = set-among 534461284352 (21 ∷ 22 ∷ 34 ∷ 35 ∷ 37 ∷ 36 ∷ 38 ∷ 28 ∷ 29 ∷ 30 ∷ []) (lit< tt) refl refl
+abbrev pub sizeKept : List ℕ
+sizeKept = 26 ∷ 27 ∷ 31 ∷ 32 ∷ 33 ∷ []
 
-pub compared-set : (k : ℕ) → eqb (digit 2 59236352 k) 1 ≡ among k (13 ∷ 14 ∷ 15 ∷ 16 ∷ 17 ∷ 18 ∷ 23 ∷ 24 ∷ 25 ∷ [])
+-- SIZE_KEPT
+pub kept-set : (k : ℕ) → eqb (digit 2 15233712128 k) 1 ≡ among k sizeKept
 unfolding among flag tabulate digit
-compared-set = set-among 59236352 (13 ∷ 14 ∷ 15 ∷ 16 ∷ 17 ∷ 18 ∷ 23 ∷ 24 ∷ 25 ∷ []) (lit< tt) refl refl
+kept-set = set-among 15233712128 sizeKept (lit< tt) refl refl
 
-pub extended-set : (k : ℕ) → eqb (digit 2 1572864 k) 1 ≡ among k (19 ∷ 20 ∷ [])
-unfolding among flag tabulate digit
-extended-set = set-among 1572864 (19 ∷ 20 ∷ []) (lit< tt) refl refl
+abbrev pub sizesEqual : List ℕ
+sizesEqual = 21 ∷ 22 ∷ 34 ∷ 35 ∷ 37 ∷ 36 ∷ 38 ∷ 28 ∷ 29 ∷ 30 ∷ []
 
-pub boolean-set : (k : ℕ) → eqb (digit 2 8246337208320 k) 1 ≡ among k (39 ∷ 40 ∷ 41 ∷ 42 ∷ [])
+-- SIZES_EQUAL
+pub equal-set : (k : ℕ) → eqb (digit 2 534461284352 k) 1 ≡ among k sizesEqual
 unfolding among flag tabulate digit
-boolean-set = set-among 8246337208320 (39 ∷ 40 ∷ 41 ∷ 42 ∷ []) (lit< tt) refl refl
+equal-set = set-among 534461284352 sizesEqual (lit< tt) refl refl
 
-pub free-set : (k : ℕ) → eqb (digit 2 6144 k) 1 ≡ among k (11 ∷ 12 ∷ [])
+abbrev pub comparisons : List ℕ
+comparisons = 13 ∷ 14 ∷ 15 ∷ 16 ∷ 17 ∷ 18 ∷ 23 ∷ 24 ∷ 25 ∷ []
+
+-- COMPARISONS
+pub compared-set : (k : ℕ) → eqb (digit 2 59236352 k) 1 ≡ among k comparisons
 unfolding among flag tabulate digit
-free-set = set-among 6144 (11 ∷ 12 ∷ []) (lit< tt) refl refl
+compared-set = set-among 59236352 comparisons (lit< tt) refl refl
+
+abbrev pub extensions : List ℕ
+extensions = 19 ∷ 20 ∷ []
+
+-- EXTENSIONS
+pub extended-set : (k : ℕ) → eqb (digit 2 1572864 k) 1 ≡ among k extensions
+unfolding among flag tabulate digit
+extended-set = set-among 1572864 extensions (lit< tt) refl refl
+
+abbrev pub booleans : List ℕ
+booleans = 39 ∷ 40 ∷ 41 ∷ 42 ∷ []
+
+-- BOOLEANS
+pub boolean-set : (k : ℕ) → eqb (digit 2 8246337208320 k) 1 ≡ among k booleans
+unfolding among flag tabulate digit
+boolean-set = set-among 8246337208320 booleans (lit< tt) refl refl
+
+abbrev pub sizesFree : List ℕ
+sizesFree = 11 ∷ 12 ∷ []
+
+-- SIZES_FREE
+pub free-set : (k : ℕ) → eqb (digit 2 6144 k) 1 ≡ among k sizesFree
+unfolding among flag tabulate digit
+free-set = set-among 6144 sizesFree (lit< tt) refl refl
 
 -- a test by a set, as a fact of the opcode
 pub tested : {r x y t : Bool} → r ≡ x → x ≡ y → r ≡ t → y ≡ t

@@ -17,19 +17,25 @@ pub fn member(set: u64, opcode: u64) -> bool
     (set >> opcode) % 2 == 1
 }
 
+// POPCOUNT, INT_ZEXT, INT_SEXT, INT_2COMP, INT_NEGATE, BOOL_NEGATE.
 const UNARY: u64 = 0b10000000_00001100_00011000_00010000_00000000;
 
-// The sentences of rule 25, in the definition's order, but for PIECE.
+// The sentences of rule 25, in the definition's order. INT_2COMP, INT_NEGATE and shifts: input0 = output.
 const SIZE_KEPT: u64 = 0b11_10001100_00000000_00000000_00000000;
 
+// Addition, subtraction, multiplication, divisions, remainders, INT_XOR, INT_AND, INT_OR: all three equal.
 const SIZES_EQUAL: u64 = 0b1111100_01110000_01100000_00000000_00000000;
 
+// Comparisons and the three carries: inputs equal, output 1.
 const COMPARISONS: u64 = 0b11_10000111_11100000_00000000;
 
+// Extensions: output larger than input0.
 const EXTENSIONS: u64 = 0b11000_00000000_00000000;
 
+// BOOL: all 1.
 const BOOLEANS: u64 = 0b111_10000000_00000000_00000000_00000000_00000000;
 
+// SUBPIECE and POPCOUNT: free.
 const SIZES_FREE: u64 = 0b11000_00000000;
 
 // The operation has no input1.

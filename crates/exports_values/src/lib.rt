@@ -41,7 +41,7 @@ pub fn gather(order: u64, bytes: &[u8], offset: u64, size: u64, out: &mut [u64])
     0
 }
 
-// The value of some bytes. The order is a constant of each call: so `gather` is compiled into its callers, and no function of its own.
+// The value of some bytes. The order is a constant of each call: so `gather` is compiled into it, as into the readers of a run.
 fn value_of(big: bool, bytes: &[u8], at: usize, size: usize) -> u64
     requires { ⌜ (size ≤ 8) × (at + size ≤ length (now bytes)) ⌝ }
     ensures { λ r. ⌜ r ≡ valueOf big (part (now (bytes .entry)) at size) ⌝ }

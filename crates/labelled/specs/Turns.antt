@@ -20,9 +20,9 @@ pub record Fitting (labelled : Bool) (labels m : Memory) : Type 0 where
   pub lengths : labelled ≡ true → lengthsOf labels ≡ lengthsOf m
   pub none : labelled ≡ false → labels ≡ unlabelled
 
--- The budget of a turn: one operation of a labelled run, all that is left of a plain one.
-unfoldable pub turnOf : (labelled : Bool) → (left : ℕ) → ℕ
-turnOf labelled left = cond (labelled && ltb 0 left) 1 left
+-- The budget of a turn: one operation of a labelled run, all of a plain one.
+unfoldable pub turnOf : (labelled : Bool) → (budget : ℕ) → ℕ
+turnOf labelled budget = cond (labelled && ltb 0 budget) 1 budget
 
 -- A labelled operation was executed and did not exit.
 unfoldable pub wentOn : (labelled : Bool) → (executed ending : ℕ) → Bool

@@ -123,7 +123,7 @@ pub fn one_operation(
     )
 }
 
-// The budget of each turn: one operation, or all of them. A labelled run that goes on has some budget left.
+// The budget of a turn, one operation or all of them. It is the same for each: a run goes on only with budget left.
 fn turn(labelled: bool, budget: u64) -> u64
     ensures { λ r. ⌜ r ≡ turnOf labelled budget ⌝ }
 {

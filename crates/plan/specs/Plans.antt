@@ -68,7 +68,8 @@ pub record Branching (op : Operation) : Type 0 where
   pub relative : eqb (op .input0 .space) 1 ≡ not (eqb (op .input0 .space) 4)
   pub noOutput : op .output ≡ absent
 
--- The arithmetic may be asked for the value of an operation other than COPY and the exits, with a divisor that is not 0.
+-- An opcode that is no access and no branch. The arithmetic may be asked for the value of an operation other than COPY and the exits,
+-- with a divisor that is not 0.
 pub record Computable (op : Operation) (a b : ℕ) : Type 0 where
   pub known : 1 ≤ op .opcode
   pub noAccess : accesses (op .opcode) ≡ false

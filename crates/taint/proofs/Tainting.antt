@@ -12,7 +12,7 @@ use Rattle.operation.specs.declared.layout.Varnode.{Varnode}
 use Rattle.operation.specs.Layout.{operationCount, opcodeAt, varnodeAt}
 use Rattle.operation.specs.Rules.{accesses, branches, jumps}
 use Rattle.machine.specs.Memory.{Memory, lengthsOf}
-use Rattle.machine.specs.Effect.{Operation, absent, pointed}
+use Rattle.machine.specs.Effect.{Operation, operationAt, absent, pointed}
 use Rattle.machine.specs.Conditions.{hasSecret, leaks, destinationBytes, becomesSecret}
 use Rattle.machine.proofs.Conditions.{absent-public}
 use Rattle.memory.specs.Placed.{Placed}
@@ -52,23 +52,23 @@ jump-no-division n j = each-jump (λ k. divides k ≡ false) refl refl refl n j
 
 -- ---- LEAK: the varnode that must be public, by the opcode
 
-abbrev pub guarded : (opcode : ℕ) (input0 input1 : Varnode) → Varnode
-guarded n v0 v1 = cond (jumps n) v0 (cond (accesses n || (eqb n 5 || divides n)) v1 absent)
+abbrev watched : (opcode : ℕ) (input0 input1 : Varnode) → Varnode
+watched n v0 v1 = cond (jumps n) v0 (cond (accesses n || (eqb n 5 || divides n)) v1 absent)
 
 module _ (n : ℕ) (v0 v1 : Varnode) where
-  pub guarded-late : 10 ≤ n → guarded n v0 v1 ≡ cond (divides n) v1 absent
-  guarded-late l = rw (late-no-jump n l, late-no-access n l, ne-eqb n 5 (λ e. omega arith)) refl
+  pub watched-late : 10 ≤ n → watched n v0 v1 ≡ cond (divides n) v1 absent
+  watched-late l = rw (late-no-jump n l, late-no-access n l, ne-eqb n 5 (λ e. omega arith)) refl
 
-  pub guarded-tested : accesses n || eqb n 5 ≡ true → guarded n v0 v1 ≡ v1
-  guarded-tested h = by (accesses n) refl (eqb n 5) refl
+  pub watched-tested : accesses n || eqb n 5 ≡ true → watched n v0 v1 ≡ v1
+  watched-tested h = by (accesses n) refl (eqb n 5) refl
     where
-      by : (p : Bool) → accesses n ≡ p → (c : Bool) → eqb n 5 ≡ c → guarded n v0 v1 ≡ v1
+      by : (p : Bool) → accesses n ≡ p → (c : Bool) → eqb n 5 ≡ c → watched n v0 v1 ≡ v1
       by true e c f = rw (access-no-jump n e, e) refl
       by false e true f = rw (condition-no-jump n f, e, f) refl
       by false e false f = absurd (true≢false (sym h ∙ rw (e, f) refl))
 
-  pub guarded-none : n < 10 → accesses n || eqb n 5 ≡ false → jumps n ≡ false → guarded n v0 v1 ≡ absent
-  guarded-none l h j =
+  pub watched-none : n < 10 → accesses n || eqb n 5 ≡ false → jumps n ≡ false → watched n v0 v1 ≡ absent
+  watched-none l h j =
       let e = neither (accesses n) (eqb n 5) h in
       rw (j, e .0, e .1, early-no-division n l) refl
 
@@ -88,9 +88,9 @@ by-one p c d false = rw (none p, none c, none d, either-way (p || (c || d))) ref
     either-way true = refl
     either-way false = refl
 
-pub leaks-guarded : (labels : Memory) (op : Operation) → leaks labels op ≡ hasSecret labels (guarded (op .opcode) (op .input0) (op .input1))
+leaks-watched : (labels : Memory) (op : Operation) → leaks labels op ≡ hasSecret labels (watched (op .opcode) (op .input0) (op .input1))
 unfolding leaks accesses jumps
-leaks-guarded labels op = rw (← divides-among n) (by (jumps n) refl)
+leaks-watched labels op = rw (← divides-among n) (by (jumps n) refl)
   where
     n : ℕ
     n = op .opcode
@@ -98,7 +98,7 @@ leaks-guarded labels op = rw (← divides-among n) (by (jumps n) refl)
     Told : Type 0
     Told =
         (accesses n && hasSecret labels (op .input1)) || (eqb n 5 && hasSecret labels (op .input1)) || (jumps n && hasSecret labels (op .input0))
-        || (divides n && hasSecret labels (op .input1)) ≡ hasSecret labels (guarded n (op .input0) (op .input1))
+        || (divides n && hasSecret labels (op .input1)) ≡ hasSecret labels (watched n (op .input0) (op .input1))
 
     tested : (t : Bool) → hasSecret labels (cond t (op .input1) absent) ≡ cond t (hasSecret labels (op .input1)) false
     tested true = refl
@@ -140,8 +140,15 @@ module _ (labels : Memory) (list : List ℕ) (v : Valid (lengthsOf labels) list)
   pub place : (k : ℕ) → k ≤ 3 → (k ≡ 1 → branches (opcodeAt list i) ≡ false) → Placed labels (varnodeAt list i k)
   place k l exempt = placed labels (v .addressSize) list i (v .operations i h) k l exempt
 
-  pub place-guarded : Placed labels (guarded (opcodeAt list i) (varnodeAt list i 1) (varnodeAt list i 2))
-  place-guarded =
+  place-watched : Placed labels (watched (opcodeAt list i) (varnodeAt list i 1) (varnodeAt list i 2))
+  place-watched =
       when-true (Placed labels) (jumps (opcodeAt list i)) _ _ (λ j. place 1 (omega arith) (λ z. jump-no-branch (opcodeAt list i) j))
       (λ j. when-true (Placed labels) (accesses (opcodeAt list i) || (eqb (opcodeAt list i) 5 || divides (opcodeAt list i))) _ _
       (λ k. place 2 (omega arith) (λ z. absurd (let y : ⊥ = omega arith in y))) (λ k. nowhere labels))
+
+-- a varnode that the code found, for any labels
+module _ (list : List ℕ) (i : ℕ) (v : Varnode) (e : v ≡ watched (opcodeAt list i) (varnodeAt list i 1) (varnodeAt list i 2)) where
+  pub told : ((labels : Memory) → hasSecret labels v ≡ leaks labels (operationAt list i))
+      × ((labels : Memory) → Valid (lengthsOf labels) list → i < operationCount list → Placed labels v)
+  unfolding operationAt
+  told = (λ labels. rw e (sym (leaks-watched labels (operationAt list i))), λ labels w h. rw e (place-watched labels list w i h))

@@ -1,15 +1,12 @@
 // What an operation must find public, and what becomes secret by it.
 ghost use mathlib.Core.Path.{_≡_};
-ghost use mathlib.Core.Bool.{cond, _||_};
 ghost use Prim.Native.Nat.{_+_, _*_, _≤_, _<_};
-ghost use lib.Dec.{eqb};
 ghost use lib.ListN.{length};
-ghost use Rattle.arithmetic.specs.Operands.{divides};
-ghost use Rattle.operation.specs.Layout.{wordsPerOperation, operationCount, opcodeAt, varnodeAt};
-ghost use Rattle.operation.specs.Rules.{accesses, jumps};
-ghost use Rattle.machine.specs.Memory.{spaces, lengthsOf};
+ghost use Rattle.operation.specs.Layout.{wordsPerOperation, operationCount};
+ghost use Rattle.machine.specs.Memory.{Memory, spaces, lengthsOf};
 ghost use Rattle.machine.specs.Effect.{operationAt, absent, pointed};
-ghost use Rattle.machine.specs.Conditions.{leaks, destinationBytes, becomesSecret};
+ghost use Rattle.machine.specs.Conditions.{hasSecret, leaks, destinationBytes, becomesSecret};
+ghost use Rattle.memory.specs.Placed.{Placed};
 ghost use Rattle.plan.specs.Valid.{Valid};
 ghost use Rattle.taint.specs.Taint.{Readable};
 use arithmetic::operands::is_division;
@@ -39,9 +36,8 @@ pub fn leaks_at<'a>(
 // tells most operations.
 fn guarded_at(list: &[u64], i: usize) -> Varnode
     requires { ⌜ wordsPerOperation * i + wordsPerOperation ≤ length (now list) ⌝ }
-    ensures { λ r. ⌜ r ≡ cond (jumps (opcodeAt (now (list .entry)) i)) (varnodeAt (now (list .entry)) i 1)
-        (cond (accesses (opcodeAt (now (list .entry)) i) || (eqb (opcodeAt (now (list .entry)) i) 5 || divides (opcodeAt (now (list .entry)) i)))
-        (varnodeAt (now (list .entry)) i 2) absent) ⌝ }
+    ensures leak { λ r. ⌜ ((labels : Memory) → hasSecret labels r ≡ leaks labels (operationAt (now (list .entry)) i)) ⌝ }
+    ensures place { λ r. ⌜ ((labels : Memory) → Valid (lengthsOf labels) (now (list .entry)) → i < operationCount (now (list .entry)) → Placed labels r) ⌝ }
 {
     let opcode = opcode_at(list, i);
     if 9 < opcode {

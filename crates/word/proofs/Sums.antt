@@ -18,7 +18,7 @@ unfolding sum
 sum-add zero f g = refl
 sum-add (suc n) f g = omega (arith, sum-add n f g)
 
--- a shorter sum is no larger
+-- a common factor
 pub sum-mul : (n : ℕ) (f : ℕ → ℕ) (c : ℕ) → sum n (λ i. f i * c) ≡ sum n f * c
 unfolding sum
 sum-mul zero f c = sym (zero-mul c)

@@ -6,8 +6,8 @@ ghost use lib.Seq.{sets};
 ghost use Rattle.word.specs.Word.{part, significance, valueOf, bytesOf};
 
 // The value of the `size` bytes at `at`. Where order and size are constants, the compiler makes one load of the walk: so the usual
-// sizes have calls of their own, and a caller that reads often has a call for each order. The other sizes are below 8; the remainder
-// tells the compiler so, which else prepares the walk for long parts.
+// sizes have calls of their own, and a caller that reads often has a call for each order. The other sizes are below 8; without
+// the remainder, which tells it so, the compiler prepares the walk for long parts.
 pub fn gather(big: bool, s: &[u8], at: usize, size: usize) -> u64
     requires { ⌜ (size ≤ 8) × (at + size ≤ length (now s)) ⌝ }
     ensures { λ r. ⌜ r ≡ valueOf big (part (now (s .entry)) at size) ⌝ }

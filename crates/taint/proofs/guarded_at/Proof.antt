@@ -5,7 +5,7 @@ use native.Mathlib.Omega.{arith}
 use borrow.Author.Needs.{needs}
 use lib.Dec.{eqb}
 use Rattle.operation.specs.Rules.{accesses}
-use Rattle.taint.proofs.Tainting.{guarded-late, guarded-tested, guarded-none}
+use Rattle.taint.proofs.Tainting.{watched-late, watched-tested, watched-none, told}
 use Rattle.taint.proofs.guarded_at.Statement.{statement}
 use Rattle.taint.proofs.guarded_at.Tie as tie
 
@@ -23,8 +23,8 @@ returns c =
     let divided = c .before .before in
     let decoded = divided .before .before in
     let n = decoded .opcode-at .result in
-    c .varnode-at .ensures
-    ∙ rw (← decoded .opcode-at .ensures) (sym (guarded-late n _ _ (divided .before .if1 .taken) ∙ rw (← divided .is-division .ensures, c .before .if2 .taken) refl))
+    told _ _ _ (c .varnode-at .ensures
+    ∙ rw (← decoded .opcode-at .ensures) (sym (watched-late n _ _ (divided .before .if1 .taken) ∙ rw (← divided .is-division .ensures, c .before .if2 .taken) refl)))
 
 absent-requires : tie.Need-absent-requires
 absent-requires c κs = search needs
@@ -34,8 +34,8 @@ returns-2 c =
     let divided = c .before .before in
     let decoded = divided .before .before in
     let n = decoded .opcode-at .result in
-    c .absent .ensures
-    ∙ rw (← decoded .opcode-at .ensures) (sym (guarded-late n _ _ (divided .before .if1 .taken) ∙ rw (← divided .is-division .ensures, c .before .if2 .left) refl))
+    told _ _ _ (c .absent .ensures
+    ∙ rw (← decoded .opcode-at .ensures) (sym (watched-late n _ _ (divided .before .if1 .taken) ∙ rw (← divided .is-division .ensures, c .before .if2 .left) refl)))
 
 accesses-requires : tie.Need-accesses-requires
 accesses-requires c κs = search needs
@@ -52,7 +52,7 @@ returns-3 c =
     let decoded = tested .before .before .before in
     let n = decoded .opcode-at .result in
     let h : accesses n || eqb n 5 ≡ true = rw (← tested .before .accesses .ensures) (sym (tested .either .ensures) ∙ c .before .if3 .taken) in
-    c .varnode-at2 .ensures ∙ rw (← decoded .opcode-at .ensures) (sym (guarded-tested n _ _ h))
+    told _ _ _ (c .varnode-at2 .ensures ∙ rw (← decoded .opcode-at .ensures) (sym (watched-tested n _ _ h)))
 
 jumps-requires : tie.Need-jumps-requires
 jumps-requires c κs = search needs
@@ -65,7 +65,7 @@ returns-4 c =
     let jumped = c .before .before in
     let tested = jumped .before .before in
     let decoded = tested .before .before .before in
-    c .varnode-at3 .ensures ∙ rw (← decoded .opcode-at .ensures, ← jumped .jumps .ensures, c .before .if4 .taken) refl
+    told _ _ _ (c .varnode-at3 .ensures ∙ rw (← decoded .opcode-at .ensures, ← jumped .jumps .ensures, c .before .if4 .taken) refl)
 
 absent-requires-2 : tie.Need-absent-requires-2
 absent-requires-2 c κs = search needs
@@ -77,8 +77,8 @@ returns-5 c =
     let decoded = tested .before .before .before in
     let n = decoded .opcode-at .result in
     let h : accesses n || eqb n 5 ≡ false = rw (← tested .before .accesses .ensures) (sym (tested .either .ensures) ∙ jumped .before .if3 .left) in
-    c .absent2 .ensures
-    ∙ rw (← decoded .opcode-at .ensures) (sym (guarded-none n _ _ (omega arith) h (sym (jumped .jumps .ensures) ∙ c .before .if4 .left)))
+    told _ _ _ (c .absent2 .ensures
+    ∙ rw (← decoded .opcode-at .ensures) (sym (watched-none n _ _ (omega arith) h (sym (jumped .jumps .ensures) ∙ c .before .if4 .left))))
 
 pub guarded-at-spec : {M : Type 1} → statement M
 guarded-at-spec =

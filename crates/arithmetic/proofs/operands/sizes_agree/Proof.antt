@@ -1,11 +1,10 @@
 -- `arithmetic::operands::sizes_agree` meets its contract. Assumes nothing.
 use Prim.Native.Nat.{ℕ}
 use mathlib.Core.Path.{_≡_, refl, _∙_}
-use mathlib.Core.Bool.{true, false}
-use mathlib.Core.List.{[], _∷_}
+use mathlib.Core.Bool.{Bool, false}
 use borrow.Author.Needs.{needs}
 use borrow.Author.Tests.{eq-eqb, ne-eqb}
-use Rattle.arithmetic.proofs.Agreement.{kept-set, equal-set, compared-set, extended-set, boolean-set, free-set, tested}
+use Rattle.arithmetic.proofs.Agreement.{sizeKept, sizesEqual, comparisons, extensions, booleans, kept-set, equal-set, compared-set, extended-set, boolean-set, free-set, tested}
 use Rattle.arithmetic.specs.Operands.{among, sizesAgree}
 use Rattle.arithmetic.proofs.operands.sizes_agree.Statement.{statement}
 use Rattle.arithmetic.proofs.operands.sizes_agree.Tie as tie
@@ -48,37 +47,39 @@ opcode4 c = opcode3 (c .before .before)
 abbrev opcode5 : lts.After-member5 calls reads.Pre reads.Post → ℕ
 opcode5 c = opcode4 (c .before .before)
 
--- ---- the sentence of rule 25 that was found, and those passed
+-- ---- what each test says of the opcode
 
-kept : (c : lts.Then1 calls reads.Pre reads.Post) → among (opcode1 (c .before)) (26 ∷ 27 ∷ 31 ∷ 32 ∷ 33 ∷ []) ≡ true
-kept c = tested (c .before .member .ensures) (kept-set _) (c .if1 .taken)
+is-kept : (c : lts.After-member calls reads.Pre reads.Post) {t : Bool} → c .member .result ≡ t → among (opcode1 c) sizeKept ≡ t
+is-kept c h = tested (c .member .ensures) (kept-set _) h
 
-not-kept : (c : lts.Else1 calls reads.Pre reads.Post) → among (opcode1 (c .before)) (26 ∷ 27 ∷ 31 ∷ 32 ∷ 33 ∷ []) ≡ false
-not-kept c = tested (c .before .member .ensures) (kept-set _) (c .if1 .left)
+is-equal : (c : lts.After-member2 calls reads.Pre reads.Post) {t : Bool} → c .member2 .result ≡ t → among (opcode2 c) sizesEqual ≡ t
+is-equal c h = tested (c .member2 .ensures) (equal-set _) h
 
-equal : (c : lts.Then2 calls reads.Pre reads.Post) → among (opcode2 (c .before)) (21 ∷ 22 ∷ 34 ∷ 35 ∷ 37 ∷ 36 ∷ 38 ∷ 28 ∷ 29 ∷ 30 ∷ []) ≡ true
-equal c = tested (c .before .member2 .ensures) (equal-set _) (c .if2 .taken)
+is-compared : (c : lts.After-member3 calls reads.Pre reads.Post) {t : Bool} → c .member3 .result ≡ t → among (opcode3 c) comparisons ≡ t
+is-compared c h = tested (c .member3 .ensures) (compared-set _) h
 
-not-equal : (c : lts.Else2 calls reads.Pre reads.Post) → among (opcode2 (c .before)) (21 ∷ 22 ∷ 34 ∷ 35 ∷ 37 ∷ 36 ∷ 38 ∷ 28 ∷ 29 ∷ 30 ∷ []) ≡ false
-not-equal c = tested (c .before .member2 .ensures) (equal-set _) (c .if2 .left)
+is-extended : (c : lts.After-member4 calls reads.Pre reads.Post) {t : Bool} → c .member4 .result ≡ t → among (opcode4 c) extensions ≡ t
+is-extended c h = tested (c .member4 .ensures) (extended-set _) h
 
-compared : (c : lts.Then3 calls reads.Pre reads.Post) → among (opcode3 (c .before)) (13 ∷ 14 ∷ 15 ∷ 16 ∷ 17 ∷ 18 ∷ 23 ∷ 24 ∷ 25 ∷ []) ≡ true
-compared c = tested (c .before .member3 .ensures) (compared-set _) (c .if3 .taken)
+is-boolean : (c : lts.After-member5 calls reads.Pre reads.Post) {t : Bool} → c .member5 .result ≡ t → among (opcode5 c) booleans ≡ t
+is-boolean c h = tested (c .member5 .ensures) (boolean-set _) h
 
-not-compared : (c : lts.Else3 calls reads.Pre reads.Post) → among (opcode3 (c .before)) (13 ∷ 14 ∷ 15 ∷ 16 ∷ 17 ∷ 18 ∷ 23 ∷ 24 ∷ 25 ∷ []) ≡ false
-not-compared c = tested (c .before .member3 .ensures) (compared-set _) (c .if3 .left)
+-- ---- and those that were passed
 
-extended : (c : lts.Then4 calls reads.Pre reads.Post) → among (opcode4 (c .before)) (19 ∷ 20 ∷ []) ≡ true
-extended c = tested (c .before .member4 .ensures) (extended-set _) (c .if4 .taken)
+not-kept : (c : lts.Else1 calls reads.Pre reads.Post) → among (opcode1 (c .before)) sizeKept ≡ false
+not-kept c = is-kept (c .before) (c .if1 .left)
 
-not-extended : (c : lts.Else4 calls reads.Pre reads.Post) → among (opcode4 (c .before)) (19 ∷ 20 ∷ []) ≡ false
-not-extended c = tested (c .before .member4 .ensures) (extended-set _) (c .if4 .left)
+not-equal : (c : lts.Else2 calls reads.Pre reads.Post) → among (opcode2 (c .before)) sizesEqual ≡ false
+not-equal c = is-equal (c .before) (c .if2 .left)
 
-boolean : (c : lts.Then5 calls reads.Pre reads.Post) → among (opcode5 (c .before)) (39 ∷ 40 ∷ 41 ∷ 42 ∷ []) ≡ true
-boolean c = tested (c .before .member5 .ensures) (boolean-set _) (c .if5 .taken)
+not-compared : (c : lts.Else3 calls reads.Pre reads.Post) → among (opcode3 (c .before)) comparisons ≡ false
+not-compared c = is-compared (c .before) (c .if3 .left)
 
-not-boolean : (c : lts.Else5 calls reads.Pre reads.Post) → among (opcode5 (c .before)) (39 ∷ 40 ∷ 41 ∷ 42 ∷ []) ≡ false
-not-boolean c = tested (c .before .member5 .ensures) (boolean-set _) (c .if5 .left)
+not-extended : (c : lts.Else4 calls reads.Pre reads.Post) → among (opcode4 (c .before)) extensions ≡ false
+not-extended c = is-extended (c .before) (c .if4 .left)
+
+not-boolean : (c : lts.Else5 calls reads.Pre reads.Post) → among (opcode5 (c .before)) booleans ≡ false
+not-boolean c = is-boolean (c .before) (c .if5 .left)
 
 -- ---- what the function needs
 
@@ -123,14 +124,14 @@ member-requires-6 c κs = search needs
 
 returns : tie.Need-returns
 unfolding sizesAgree
-returns c = rw (kept c) refl
+returns c = rw (is-kept (c .before) (c .if1 .taken)) refl
 
 returns-2 : tie.Need-returns-2
 unfolding sizesAgree
 returns-2 c =
     let found = c .before in
     let past1 = found .before .before in
-    c .both .ensures ∙ rw (not-kept past1, equal found) refl
+    c .both .ensures ∙ rw (not-kept past1, is-equal (found .before) (found .if2 .taken)) refl
 
 returns-3 : tie.Need-returns-3
 unfolding sizesAgree
@@ -138,7 +139,7 @@ returns-3 c =
     let found = c .before in
     let past2 = found .before .before in
     let past1 = past2 .before .before in
-    c .both2 .ensures ∙ rw (not-kept past1, not-equal past2, compared found) refl
+    c .both2 .ensures ∙ rw (not-kept past1, not-equal past2, is-compared (found .before) (found .if3 .taken)) refl
 
 returns-4 : tie.Need-returns-4
 unfolding sizesAgree
@@ -146,7 +147,7 @@ returns-4 c =
     let past3 = c .before .before in
     let past2 = past3 .before .before in
     let past1 = past2 .before .before in
-    rw (not-kept past1, not-equal past2, not-compared past3, extended c) refl
+    rw (not-kept past1, not-equal past2, not-compared past3, is-extended (c .before) (c .if4 .taken)) refl
 
 returns-5 : tie.Need-returns-5
 unfolding sizesAgree
@@ -158,7 +159,7 @@ returns-5 c =
     let past1 = past2 .before .before in
     c .both4 .ensures
     ∙ rw (c .before .both3 .ensures, c .before .before .either .ensures, c .before .before .before .is-unary .ensures)
-    (rw (not-kept past1, not-equal past2, not-compared past3, not-extended past4, boolean found) refl)
+    (rw (not-kept past1, not-equal past2, not-compared past3, not-extended past4, is-boolean (found .before) (found .if5 .taken)) refl)
 
 returns-6 : tie.Need-returns-6
 unfolding sizesAgree among
