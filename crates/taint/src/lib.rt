@@ -90,7 +90,8 @@ pub fn target_at(list: &[u64], i: usize, pointer: u64) -> Varnode
     varnode_at(list, i, 0)
 }
 
-// Whether what operation i writes becomes secret. A LOAD's own varnodes are public by now, so only the bytes loaded are looked at.
+// Whether what operation i writes becomes secret. A LOAD's own varnodes are public by now, so only the bytes loaded are looked at. The
+// first test tells most operations, which look at both inputs, as COPY does at last.
 pub fn becomes_secret<'a>(
     list: &[u64],
     unique: &'a [u8],
@@ -103,6 +104,13 @@ pub fn becomes_secret<'a>(
     ensures { λ r. ⌜ r ≡ becomesSecret (spaces (now (unique .entry)) (now (register .entry)) (now (ram .entry))) (operationAt (now (list .entry)) i) pointer ⌝ }
 {
     let opcode = opcode_at(list, i);
+    if 9 < opcode {
+        let first = has_secret(unique, register, ram, varnode_at(list, i, 1));
+        return either(
+            first,
+            has_secret(unique, register, ram, varnode_at(list, i, 2)),
+        );
+    }
     if opcode == 3 {
         return has_secret(unique, register, ram, varnode_at(list, i, 3));
     }
