@@ -105,17 +105,11 @@ pub fn once(words: &[&str]) -> Result<(), String> {
 
 fn run_once(kind: Kind, program: &Program, budget: u32, mut state: State) {
     let mut labels = Labels::public(&state);
-    black_box(counted_run(kind, program, budget, &mut state, &mut labels));
+    black_box(counted_run(|| run(kind, program, budget, &mut state, &mut labels)));
 }
 
 /// What callgrind is told to count.
 #[inline(never)]
-fn counted_run(
-    kind: Kind,
-    program: &Program,
-    budget: u32,
-    state: &mut State,
-    labels: &mut Labels,
-) -> [u64; 5] {
-    run(kind, program, budget, state, labels)
+fn counted_run(run: impl FnOnce() -> [u64; 5]) -> [u64; 5] {
+    run()
 }

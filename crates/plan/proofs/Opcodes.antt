@@ -4,7 +4,7 @@ use native.Mathlib.Omega.{arith}
 use mathlib.Core.Path.{_≡_, refl, sym, ap, subst, _∙_}
 use mathlib.Core.Bool.{Bool, true, false, _||_, true≢false}
 use mathlib.Core.List.{[], _∷_}
-use borrow.Author.Tests.{eq-eqb, ne-eqb}
+use borrow.Author.Tests.{eqb-false, eq-eqb, ne-eqb}
 use lib.Dec.{eqb}
 use Rattle.integer.proofs.Booleans.{neither}
 use Rattle.arithmetic.specs.Operands.{among, divides}
@@ -118,3 +118,18 @@ no-jump n j =
     let j6 = neither (eqb n 6) (eqb n 8 || (eqb n 9 || false)) j in
     let j8 = neither (eqb n 8) (eqb n 9 || false) (j6 .1) in
     record { n6 = j6 .0; n8 = j8 .0; n9 = neither (eqb n 9) false (j8 .1) .0 }
+
+-- none of the first nine
+five : (n : ℕ) → 1 ≤ n → (n ≡ 1 → ⊥) → (n ≡ 2 → ⊥) → (n ≡ 3 → ⊥) → (n ≡ 4 → ⊥) → 5 ≤ n
+five n l n1 n2 n3 n4 = omega arith
+
+ten-from : (n : ℕ) → 5 ≤ n → (n ≡ 5 → ⊥) → (n ≡ 6 → ⊥) → (n ≡ 7 → ⊥) → (n ≡ 8 → ⊥) → (n ≡ 9 → ⊥) → 10 ≤ n
+ten-from n l n5 n6 n7 n8 n9 = omega arith
+
+pub late : (n : ℕ) → 1 ≤ n → (n ≡ 1 → ⊥) → accesses n ≡ false → branches n ≡ false → jumps n ≡ false → 10 ≤ n
+late n l n1 a b j =
+    let na = no-access n a in
+    let nb = no-branch n b in
+    let nj = no-jump n j in
+    ten-from n (five n l n1 (eqb-false n 2 (na .n2)) (eqb-false n 3 (na .n3)) (eqb-false n 4 (nb .n4)))
+    (eqb-false n 5 (nb .n5)) (eqb-false n 6 (nj .n6)) (eqb-false n 7 (nb .n7)) (eqb-false n 8 (nj .n8)) (eqb-false n 9 (nj .n9))

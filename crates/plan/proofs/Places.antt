@@ -2,14 +2,14 @@
 use Prim.Native.Nat.{ℕ, _+_, _*_, _%_, _^_, _≤_, _<_}
 use native.Mathlib.Nat.{div-mul-le-self}
 use mathlib.Core.Path.{_≡_, refl, sym, subst}
-use mathlib.Core.Bool.{Bool, true, false, cond, not, _&&_, _||_}
+use mathlib.Core.Bool.{Bool, true, false, cond, not, _&&_}
 use mathlib.Core.List.{List, []}
 use native.Mathlib.Omega.{arith}
-use borrow.Author.Tests.{eqb-false, leb-true, ne-eqb, not-false}
+use borrow.Author.Tests.{leb-true, ne-eqb, not-false}
 use lib.Dec.{eqb, leb}
 use lib.ListN.{length}
 use Rattle.word.specs.Word.{Bytes}
-use Rattle.integer.proofs.Booleans.{both, neither}
+use Rattle.integer.proofs.Booleans.{both}
 use Rattle.arithmetic.specs.Operands.{among, sizesAgree}
 use Rattle.operation.specs.declared.layout.Settings.{Settings}
 use Rattle.operation.specs.declared.layout.Lengths.{Lengths}
@@ -27,7 +27,7 @@ use Rattle.machine.proofs.Cases.{either}
 use Rattle.memory.specs.Placed.{Placed}
 use Rattle.plan.specs.Valid.{Valid}
 use Rattle.plan.specs.Plans.{Movable, Branching, Computable}
-use Rattle.plan.proofs.Opcodes.{each-branch, access-no-branch, no-branch}
+use Rattle.plan.proofs.Opcodes.{each-branch, access-no-branch, no-branch, late}
 
 -- a list is valid by the lengths of the spaces alone
 pub valid-with : {a b : Lengths} {list : List ℕ} → a ≡ b → Valid b list → Valid a list
@@ -48,12 +48,6 @@ space-length m space = by (eqb space 2) (eqb space 3) (eqb space 4)
     by false true r = refl
     by false false true = refl
     by false false false = refl
-
-five : (n : ℕ) → 1 ≤ n → (n ≡ 1 → ⊥) → (n ≡ 2 → ⊥) → (n ≡ 3 → ⊥) → (n ≡ 4 → ⊥) → 5 ≤ n
-five n l n1 n2 n3 n4 = omega arith
-
-ten-from : (n : ℕ) → 5 ≤ n → (n ≡ 5 → ⊥) → (n ≡ 6 → ⊥) → (n ≡ 7 → ⊥) → (n ≡ 8 → ⊥) → (n ≡ 9 → ⊥) → 10 ≤ n
-ten-from n l n5 n6 n7 n8 n9 = omega arith
 
 module _ (m : Memory) (addressSize : ℕ) (list : List ℕ) (i : ℕ) (w : WellFormed addressSize (lengthsOf m) list i) where
   pub placed : (place : ℕ) → place ≤ 3 → (place ≡ 1 → branches (opcodeAt list i) ≡ false) → Placed m (varnodeAt list i place)
@@ -88,22 +82,6 @@ module _ (m : Memory) (addressSize : ℕ) (list : List ℕ) (i : ℕ) (w : WellF
         stored = placed 3 (omega arith) (λ z. f);
       }
 
-  -- an opcode that is none of the first nine
-  data-opcode : (opcodeAt list i ≡ 1 → ⊥) → accesses (opcodeAt list i) ≡ false → branches (opcodeAt list i) ≡ false → jumps (opcodeAt list i) ≡ false → 10 ≤ opcodeAt list i
-  unfolding accesses branches jumps among
-  data-opcode n1 a b j =
-      let n : ℕ = opcodeAt list i in
-      let a2 = neither (eqb n 2) (eqb n 3 || false) a in
-      let a3 = neither (eqb n 3) false (a2 .1) in
-      let b4 = neither (eqb n 4) (eqb n 5 || (eqb n 7 || false)) b in
-      let b5 = neither (eqb n 5) (eqb n 7 || false) (b4 .1) in
-      let b7 = neither (eqb n 7) false (b5 .1) in
-      let j6 = neither (eqb n 6) (eqb n 8 || (eqb n 9 || false)) j in
-      let j8 = neither (eqb n 8) (eqb n 9 || false) (j6 .1) in
-      let j9 = neither (eqb n 9) false (j8 .1) in
-      ten-from n (five n (w .opcode .0) n1 (eqb-false n 2 (a2 .0)) (eqb-false n 3 (a3 .0)) (eqb-false n 4 (b4 .0)))
-      (eqb-false n 5 (b5 .0)) (eqb-false n 6 (j6 .0)) (eqb-false n 7 (b7 .0)) (eqb-false n 8 (j8 .0)) (eqb-false n 9 (j9 .0))
-
   -- rule 25 of the opcodes from 10 on
   agree : (opcodeAt list i ≡ 1 → ⊥) → accesses (opcodeAt list i) ≡ false → branches (opcodeAt list i) ≡ false → jumps (opcodeAt list i) ≡ false
       → sizesAgree (opcodeAt list i) (varnodeAt list i 0 .size) (varnodeAt list i 1 .size) (varnodeAt list i 2 .size) ≡ true
@@ -118,7 +96,7 @@ module _ (m : Memory) (addressSize : ℕ) (list : List ℕ) (i : ℕ) (w : WellF
     noAccess = na;
     noBranch = nb;
     operands = λ j n1 d.
-        let shape = data-shape (opcodeAt list i) (data-opcode n1 na nb j) (w .opcode .1) in
+        let shape = data-shape (opcodeAt list i) (late (opcodeAt list i) (w .opcode .0) n1 na nb j) (w .opcode .1) in
         let out = w .present 0 (omega arith) (shape .0) in
         let in0 = w .present 1 (omega arith) (shape .1) in
         let f : Formed settings m i (operationAt list i) = formed settings addressSize list i m words bytes small w in

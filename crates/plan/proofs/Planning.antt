@@ -4,7 +4,7 @@ use native.Mathlib.Omega.{arith}
 use mathlib.Core.Path.{_≡_, refl, sym, ap, _∙_}
 use mathlib.Core.Bool.{Bool, true, false, cond, not, _&&_, true≢false}
 use native.Mathlib.Numerals.{add-one}
-use borrow.Author.Tests.{eqb-false, eq-eqb, ne-eqb, leb-true, not-true, not-false}
+use borrow.Author.Tests.{eqb-true, eqb-false, eq-eqb, ne-eqb, leb-true, not-true, not-false}
 use lib.Dec.{eqb, leb}
 use lib.ListN.{length}
 use Rattle.integer.specs.Operations.{flag}
@@ -21,7 +21,7 @@ use Rattle.memory.specs.Placed.{Placed}
 use Rattle.plan.specs.declared.Plan.{Plan}
 use Rattle.plan.specs.Plans.{unwritten, stopPlan, lowDue, exitPlan, nextPlan, planned, movePlan, branchPlan, dataPlan, Movable, Branching, Computable}
 use Rattle.plan.proofs.Places.{space-length}
-use Rattle.plan.proofs.Opcodes.{divides-among, by-access, by-jump, by-branch, no-access, no-branch, no-jump, late-no-jump}
+use Rattle.plan.proofs.Opcodes.{divides-among, by-access, by-jump, by-branch, no-access, no-branch, no-jump, late-no-jump, late}
 
 -- ---- BRANCH, CALL and CBRANCH
 
@@ -150,13 +150,6 @@ module _ (op : Operation) (i b n : ℕ) (v0 : Varnode) (en : n ≡ op .opcode) (
         let stays : eqb (op .input0 .space) 4 ≡ false = rw (← e0) (ne-eqb (v0 .space) 4 k) in
         e ∙ rw (en′, el, en, e0) (follows i b op h (untaken f) stays (h .relative ∙ rw stays refl))
 
--- an opcode below 10 that is none of 2 to 9
-below-four : (n : ℕ) → n < 10 → (n ≡ 4 → ⊥) → (n ≡ 5 → ⊥) → (n ≡ 6 → ⊥) → (n ≡ 7 → ⊥) → (n ≡ 8 → ⊥) → (n ≡ 9 → ⊥) → n < 4
-below-four n l n4 n5 n6 n7 n8 n9 = omega arith
-
-one-left : (n : ℕ) → 1 ≤ n → n < 4 → (n ≡ 2 → ⊥) → (n ≡ 3 → ⊥) → n ≡ 1
-one-left n k l n2 n3 = omega arith
-
 module _ (op : Operation) (a b n : ℕ) (en : n ≡ op .opcode) (h : Computable op a b) where
   written-as : jumps (op .opcode) ≡ false → divides (op .opcode) && eqb b 0 ≡ false → (i : ℕ) (r : Plan) (x : ℕ) (out : Varnode) → out ≡ op .output
       → valueComputed op a b ≡ x → r ≡ record { stop = 0; next = i + 1; due = false; low = 0; target = out; value = x } → r ≡ dataPlan op i a b
@@ -171,14 +164,12 @@ module _ (op : Operation) (a b n : ℕ) (en : n ≡ op .opcode) (h : Computable 
     code-jumps i r k e = e ∙ jumped i a b op h (jumping k)
 
     copy : n < 10 → j ≡ false → op .opcode ≡ 1
-    copy l f =
-        let k = op .opcode in
-        let na = no-access k (h .noAccess) in
-        let nb = no-branch k (h .noBranch) in
-        let nj = no-jump k (jumping f) in
-        one-left k (h .known)
-        (below-four k (rw (← en) l) (eqb-false k 4 (nb .n4)) (eqb-false k 5 (nb .n5)) (eqb-false k 6 (nj .n6)) (eqb-false k 7 (nb .n7)) (eqb-false k 8 (nj .n8)) (eqb-false k 9 (nj .n9)))
-        (eqb-false k 2 (na .n2)) (eqb-false k 3 (na .n3))
+    copy l f = by (eqb (op .opcode) 1) refl
+      where
+        by : (t : Bool) → eqb (op .opcode) 1 ≡ t → op .opcode ≡ 1
+        by true e = eqb-true (op .opcode) 1 e
+        by false e =
+            absurd (let t = late (op .opcode) (h .known) (eqb-false (op .opcode) 1 e) (h .noAccess) (h .noBranch) (jumping f) in let z : ⊥ = omega arith in z)
 
     pub code-copies : n < 10 → j ≡ false → (i : ℕ) (r : Plan) (out : Varnode) → out ≡ op .output
         → r ≡ record { stop = 0; next = i + 1; due = false; low = 0; target = out; value = a } → r ≡ dataPlan op i a b
