@@ -7,7 +7,15 @@ use arithmetic::operands::sizes_agree;
 use word::size::holds;
 use word::size::within;
 
-pub fn of_value(opcode: u64, size: u64, size0: u64, size1: u64, a: u64, b: u64, room: usize) -> u64
+pub(crate) fn of_value(
+    opcode: u64,
+    size: u64,
+    size0: u64,
+    size1: u64,
+    a: u64,
+    b: u64,
+    room: usize,
+) -> u64
     ensures { λ r. ⌜ r ≡ valueFault opcode size size0 size1 a b room ⌝ }
 {
     if room == 0 {
@@ -39,7 +47,7 @@ pub fn of_value(opcode: u64, size: u64, size0: u64, size1: u64, a: u64, b: u64, 
     0
 }
 
-pub fn of_gather(order: u64, length: usize, offset: u64, size: u64, room: usize) -> u64
+pub(crate) fn of_gather(order: u64, length: usize, offset: u64, size: u64, room: usize) -> u64
     ensures { λ r. ⌜ r ≡ gatherFault order length offset size room ⌝ }
 {
     if 1 < order {
@@ -57,7 +65,7 @@ pub fn of_gather(order: u64, length: usize, offset: u64, size: u64, room: usize)
     0
 }
 
-pub fn of_scatter(order: u64, length: usize, offset: u64, size: u64, value: u64) -> u64
+pub(crate) fn of_scatter(order: u64, length: usize, offset: u64, size: u64, value: u64) -> u64
     ensures { λ r. ⌜ r ≡ scatterFault order length offset size value ⌝ }
 {
     if 1 < order {

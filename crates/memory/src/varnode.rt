@@ -87,7 +87,12 @@ pub fn read_moved<'a>(
 }
 
 // The bytes of a space with bytes, by its number.
-pub fn space_of<'a>(unique: &'a [u8], register: &'a [u8], ram: &'a [u8], space: u64) -> &'a [u8]
+pub(crate) fn space_of<'a>(
+    unique: &'a [u8],
+    register: &'a [u8],
+    ram: &'a [u8],
+    space: u64,
+) -> &'a [u8]
     requires { ⌜ (2 ≤ space) × (space ≤ 4) ⌝ }
     ensures { λ r. ⌜ now r ≡ spaceOf (spaces (now (unique .entry)) (now (register .entry)) (now (ram .entry))) space ⌝ }
 {

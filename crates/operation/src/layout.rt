@@ -62,7 +62,7 @@ pub fn opcode_at(list: &[u64], i: usize) -> u64
 }
 
 // A descriptor is space * 16 + size.
-pub fn described_by(descriptor: u64, offset: u64) -> Varnode
+pub(crate) fn described_by(descriptor: u64, offset: u64) -> Varnode
     ensures { λ r. ⌜ r ≡ describedBy descriptor offset ⌝ }
 {
     Varnode {
