@@ -8,7 +8,7 @@ use std::path::Path;
 use std::process::Command;
 
 /// The loop of both runs: a function with two callers, called once a run.
-const LOOP: &str = "labelled::run_any";
+const LOOP: &str = "run_labelled::run_any";
 
 /// The functions of the archive beside those of the C interface. `value` alone is called by an operation; the C interface calls
 /// it too.
@@ -44,7 +44,7 @@ fn functions() -> Vec<String> {
         Command::new("nm").arg(archive).output().expect("nm runs: it is one of cc's binutils");
     assert!(output.status.success(), "nm cannot read the archive");
     let text = String::from_utf8(output.stdout).expect("names are text");
-    // Lines such as '0000000000000000 t labelled::run_any'.
+    // Lines such as '0000000000000000 t run_labelled::run_any'.
     text.lines()
         .filter_map(|line| {
             let mut words = line.splitn(3, ' ').skip(1);

@@ -1,4 +1,4 @@
--- What the operands of an operation satisfy, by the sentence of rule 25 that its opcode falls under. Assumes nothing.
+-- What the operands of an operation satisfy, by the sentence of rule 25 that its opcode falls under.
 use Prim.Native.Nat.{ℕ, _+_, _*_, _^_, _≤_, _<_}
 use mathlib.Core.Bool.{Bool, true, false, _&&_}
 use mathlib.Core.List.{List, [], _∷_}
@@ -11,7 +11,7 @@ use lib.ListN.{getD}
 use Rattle.word.specs.Sum.{tabulate, digit}
 use Rattle.word.proofs.Sums.{tabulate-at}
 use Rattle.word.proofs.Powers.{size-most}
-use Rattle.arithmetic.specs.Operands.{Operands, among, sizesAgree, divides}
+use Rattle.arithmetic.specs.Operands.{Operands, member, sizesAgree, divides}
 use Rattle.integer.specs.Operations.{flag}
 use Rattle.integer.proofs.Booleans.{both}
 use Rattle.integer.proofs.Whole.{piece-lt}
@@ -23,13 +23,13 @@ abbrev upTo : ℕ → List ℕ → Bool
 upTo top [] = true
 upTo top (m ∷ ms) = leb m top && upTo top ms
 
-pub not-among : (n top : ℕ) (l : List ℕ) → upTo top l ≡ true → top < n → among n l ≡ false
-unfolding among
-not-among n top [] t h = refl
-not-among n top (m ∷ ms) t h =
+pub not-member : (n top : ℕ) (l : List ℕ) → upTo top l ≡ true → top < n → member n l ≡ false
+unfolding member
+not-member n top [] t h = refl
+not-member n top (m ∷ ms) t h =
     let e = both (leb m top) (upTo top ms) t in
     let l : m ≤ top = leb-true m top (e .0) in
-    rw (ne-eqb n m (λ k. let z : ⊥ = omega arith in z)) (not-among n top ms (e .1) h)
+    rw (ne-eqb n m (λ k. let z : ⊥ = omega arith in z)) (not-member n top ms (e .1) h)
 
 pub flag-one : (t : Bool) → eqb (flag t) 1 ≡ t
 unfolding flag
@@ -54,66 +54,66 @@ set-tells set g small past same k = by (ltb k 64) refl
         rw bit (flag-one (g k))
     by false e = let h = ltb-false k 64 e in rw (past k h, no-bit set k 64 small h) refl
 
-pub set-among : (set : ℕ) (l : List ℕ) → set < 2 ^ 64 → upTo 63 l ≡ true → tabulate 64 (λ k. digit 2 set k) ≡ tabulate 64 (λ k. flag (among k l))
-    → (k : ℕ) → eqb (digit 2 set k) 1 ≡ among k l
-set-among set l small up same = set-tells set (λ k. among k l) small (λ k h. not-among k 63 l up h) same
+pub set-member : (set : ℕ) (l : List ℕ) → set < 2 ^ 64 → upTo 63 l ≡ true → tabulate 64 (λ k. digit 2 set k) ≡ tabulate 64 (λ k. flag (member k l))
+    → (k : ℕ) → eqb (digit 2 set k) 1 ≡ member k l
+set-member set l small up same = set-tells set (λ k. member k l) small (λ k h. not-member k 63 l up h) same
 
 -- the sets of the code: the opcodes of each, and that its bits tell them
 abbrev pub unaries : List ℕ
 unaries = 12 ∷ 19 ∷ 20 ∷ 26 ∷ 27 ∷ 39 ∷ []
 
 -- UNARY
-pub unary-set : (k : ℕ) → eqb (digit 2 549958717440 k) 1 ≡ among k unaries
-unfolding among flag tabulate digit
-unary-set = set-among 549958717440 unaries (lit< tt) refl refl
+pub unary-set : (k : ℕ) → eqb (digit 2 549958717440 k) 1 ≡ member k unaries
+unfolding member flag tabulate digit
+unary-set = set-member 549958717440 unaries (lit< tt) refl refl
 
 abbrev pub sizeKept : List ℕ
 sizeKept = 26 ∷ 27 ∷ 31 ∷ 32 ∷ 33 ∷ []
 
 -- SIZE_KEPT
-pub kept-set : (k : ℕ) → eqb (digit 2 15233712128 k) 1 ≡ among k sizeKept
-unfolding among flag tabulate digit
-kept-set = set-among 15233712128 sizeKept (lit< tt) refl refl
+pub kept-set : (k : ℕ) → eqb (digit 2 15233712128 k) 1 ≡ member k sizeKept
+unfolding member flag tabulate digit
+kept-set = set-member 15233712128 sizeKept (lit< tt) refl refl
 
 abbrev pub sizesEqual : List ℕ
 sizesEqual = 21 ∷ 22 ∷ 34 ∷ 35 ∷ 37 ∷ 36 ∷ 38 ∷ 28 ∷ 29 ∷ 30 ∷ []
 
 -- SIZES_EQUAL
-pub equal-set : (k : ℕ) → eqb (digit 2 534461284352 k) 1 ≡ among k sizesEqual
-unfolding among flag tabulate digit
-equal-set = set-among 534461284352 sizesEqual (lit< tt) refl refl
+pub equal-set : (k : ℕ) → eqb (digit 2 534461284352 k) 1 ≡ member k sizesEqual
+unfolding member flag tabulate digit
+equal-set = set-member 534461284352 sizesEqual (lit< tt) refl refl
 
 abbrev pub comparisons : List ℕ
 comparisons = 13 ∷ 14 ∷ 15 ∷ 16 ∷ 17 ∷ 18 ∷ 23 ∷ 24 ∷ 25 ∷ []
 
 -- COMPARISONS
-pub compared-set : (k : ℕ) → eqb (digit 2 59236352 k) 1 ≡ among k comparisons
-unfolding among flag tabulate digit
-compared-set = set-among 59236352 comparisons (lit< tt) refl refl
+pub compared-set : (k : ℕ) → eqb (digit 2 59236352 k) 1 ≡ member k comparisons
+unfolding member flag tabulate digit
+compared-set = set-member 59236352 comparisons (lit< tt) refl refl
 
 abbrev pub extensions : List ℕ
 extensions = 19 ∷ 20 ∷ []
 
 -- EXTENSIONS
-pub extended-set : (k : ℕ) → eqb (digit 2 1572864 k) 1 ≡ among k extensions
-unfolding among flag tabulate digit
-extended-set = set-among 1572864 extensions (lit< tt) refl refl
+pub extended-set : (k : ℕ) → eqb (digit 2 1572864 k) 1 ≡ member k extensions
+unfolding member flag tabulate digit
+extended-set = set-member 1572864 extensions (lit< tt) refl refl
 
 abbrev pub booleans : List ℕ
 booleans = 39 ∷ 40 ∷ 41 ∷ 42 ∷ []
 
 -- BOOLEANS
-pub boolean-set : (k : ℕ) → eqb (digit 2 8246337208320 k) 1 ≡ among k booleans
-unfolding among flag tabulate digit
-boolean-set = set-among 8246337208320 booleans (lit< tt) refl refl
+pub boolean-set : (k : ℕ) → eqb (digit 2 8246337208320 k) 1 ≡ member k booleans
+unfolding member flag tabulate digit
+boolean-set = set-member 8246337208320 booleans (lit< tt) refl refl
 
 abbrev pub sizesFree : List ℕ
 sizesFree = 11 ∷ 12 ∷ []
 
 -- SIZES_FREE
-pub free-set : (k : ℕ) → eqb (digit 2 6144 k) 1 ≡ among k sizesFree
-unfolding among flag tabulate digit
-free-set = set-among 6144 sizesFree (lit< tt) refl refl
+pub free-set : (k : ℕ) → eqb (digit 2 6144 k) 1 ≡ member k sizesFree
+unfolding member flag tabulate digit
+free-set = set-member 6144 sizesFree (lit< tt) refl refl
 
 -- a test by a set, as a fact of the opcode
 pub tested : {r x y t : Bool} → r ≡ x → x ≡ y → r ≡ t → y ≡ t

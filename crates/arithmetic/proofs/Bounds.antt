@@ -1,4 +1,4 @@
--- The value of an operation's output is below 256^size, as that of a varnode has to be. Assumes nothing.
+-- The value of an operation's output is below 256^size, as that of a varnode has to be.
 use Prim.Native.Nat.{ℕ, _+_, _*_, _/_, _%_, _^_, _-_, _≤_, _<_, min, max}
 use mathlib.Core.Bool.{Bool, true, false, cond}
 use mathlib.Core.List.{List, [], _∷_}
@@ -15,7 +15,7 @@ use Rattle.word.proofs.Powers.{pow-bits}
 use Rattle.word.proofs.Powers.{size-pos, size-mono}
 use Rattle.integer.specs.Integers.{signed, wrap, negative}
 use Rattle.integer.specs.Operations.{flag, piece, subpiece, popcount, intEqual, intNotEqual, intLess, intSless, intLessEqual, intSlessEqual, intZext, intSext, intAdd, intSub, intCarry, intScarry, intSborrow, int2comp, intNegate, intXor, intAnd, intOr, intLeft, intRight, intSright, intMult, intDiv, intRem, intSdiv, intSrem, boolNegate, boolXor, boolAnd, boolOr}
-use Rattle.arithmetic.specs.Operands.{Operands, among, sizesAgree}
+use Rattle.arithmetic.specs.Operands.{Operands, member, sizesAgree}
 use Rattle.arithmetic.specs.Result.{lookup, result}
 use Rattle.integer.proofs.Booleans.{flag-lt}
 use Rattle.integer.proofs.Whole.{piece-lt}
@@ -80,7 +80,7 @@ module _ {opcode size size0 size1 a b : ℕ} (o : Operands opcode size size0 siz
       (either-lt (negative (signed size a)) (256 ^ size - 1) 0 (256 ^ size) (omega (arith, positive)) positive)
 
   pub result-below : result opcode size size0 size1 a b < 256 ^ size
-  unfolding result sizesAgree among subpiece intEqual intNotEqual intLess intSless intLessEqual intSlessEqual intZext intSext intAdd intSub intCarry intScarry intSborrow int2comp intNegate intXor intAnd intOr intLeft intRight intMult intDiv intRem intSdiv intSrem boolNegate boolXor boolAnd boolOr
+  unfolding result sizesAgree member subpiece intEqual intNotEqual intLess intSless intLessEqual intSlessEqual intZext intSext intAdd intSub intCarry intScarry intSborrow int2comp intNegate intXor intAnd intOr intLeft intRight intMult intDiv intRem intSdiv intSrem boolNegate boolXor boolAnd boolOr
   result-below =
       lookup-lt opcode (256 ^ size) positive
       ((λ e. piece-below (agreed o 10 e))

@@ -8,7 +8,7 @@ use integer::boolean::both;
 use integer::boolean::either;
 
 // A set of opcodes is a word: the bit that counts 2^opcode is 1. A table would be built anew at every look-up.
-pub fn member(set: u64, opcode: u64) -> bool
+pub fn has_bit(set: u64, opcode: u64) -> bool
     ensures { λ r. ⌜ r ≡ eqb (digit 2 set opcode) 1 ⌝ }
 {
     if 63 < opcode {
@@ -42,7 +42,7 @@ const SIZES_FREE: u64 = 0b11000_00000000;
 pub fn is_unary(opcode: u64) -> bool
     ensures { λ r. ⌜ r ≡ unary opcode ⌝ }
 {
-    member(UNARY, opcode)
+    has_bit(UNARY, opcode)
 }
 
 // The operation divides by input1.
@@ -56,15 +56,15 @@ pub fn is_division(opcode: u64) -> bool
 pub fn sizes_agree(opcode: u64, size: u64, size0: u64, size1: u64) -> bool
     ensures { λ r. ⌜ r ≡ sizesAgree opcode size size0 size1 ⌝ }
 {
-    if member(SIZE_KEPT, opcode) {
+    if has_bit(SIZE_KEPT, opcode) {
         size0 == size
-    } else if member(SIZES_EQUAL, opcode) {
+    } else if has_bit(SIZES_EQUAL, opcode) {
         both(size0 == size, size1 == size)
-    } else if member(COMPARISONS, opcode) {
+    } else if has_bit(COMPARISONS, opcode) {
         both(size1 == size0, size == 1)
-    } else if member(EXTENSIONS, opcode) {
+    } else if has_bit(EXTENSIONS, opcode) {
         size0 < size
-    } else if member(BOOLEANS, opcode) {
+    } else if has_bit(BOOLEANS, opcode) {
         both(
             both(size0 == 1, either(is_unary(opcode), size1 == 1)),
             size == 1,
@@ -72,7 +72,7 @@ pub fn sizes_agree(opcode: u64, size: u64, size0: u64, size1: u64) -> bool
     } else if opcode == 10 {
         add_up(size0, size1, size)
     } else {
-        member(SIZES_FREE, opcode)
+        has_bit(SIZES_FREE, opcode)
     }
 }
 

@@ -19,7 +19,7 @@ use Rattle.frame.specs.Frames.{frameOf, bytesOn, wordsOn}
 use Rattle.frame.specs.declared.Frame.{Frame}
 use Rattle.frame.specs.declared.Frame.the-variants.{Opening, Bytes, Operation}
 use Rattle.frame.proofs.Laws.{BytesLine, frame-line}
-use Rattle.case_line.specs.Case.{mostCaseOperations, mostCaseBytes, Case, Progress, lengthsFit, opening, opened, inSpace, withMemory, withLabels, withOperation, stored, continued, afterLine}
+use Rattle.case_line.specs.Case.{mostCaseOperations, mostCaseBytes, Case, Progress, lengthsFit, opening, opened, inSpace, withMemory, withLabels, withOperation, stored, extended, afterLine}
 use Rattle.case_line.specs.Buffers.{memoryIn, caseIn, progressIn, Fits, Sound, Fed}
 use Rattle.case_line.specs.declared.Header.{Header}
 use Rattle.case_line.specs.declared.Stage.{Stage}
@@ -111,14 +111,14 @@ added o s ws ws′ q r =
     (take-at (take (wordsPerOperation * o) ws ++ wordsOn s) (drop (wordsPerOperation * o + length (wordsOn s)) ws) (wordsPerOperation * (o + 1)) front)
 
 module _ (n : ℕ) (s : List ℕ) {f : Frame} (e : f ≡ frameOf s) (d : Header) (m ls ws : List ℕ) (h : Sound (Reading d) m ls ws) where
-  pub fed-bad : continued n s f (caseIn d m ls ws) ≡ Progress.badLine n → Fed n s (Reading d) m ls ws (BadLine n) m ls ws
+  pub fed-bad : extended n s f (caseIn d m ls ws) ≡ Progress.badLine n → Fed n s (Reading d) m ls ws (BadLine n) m ls ws
   unfolding progressIn afterLine
   fed-bad k = bad-line n s (Reading d) m ls ws h (rw (← e) (sym k))
 
-  fed-good : (c : Case) (d′ : Header) (m′ ls′ ws′ : List ℕ) → continued n s f (caseIn d m ls ws) ≡ Progress.reading c → caseIn d′ m′ ls′ ws′ ≡ c
+  fed-good : (c : Case) (d′ : Header) (m′ ls′ ws′ : List ℕ) → extended n s f (caseIn d m ls ws) ≡ Progress.reading c → caseIn d′ m′ ls′ ws′ ≡ c
       → Sound (Reading d′) m′ ls′ ws′ → Fed n s (Reading d) m ls ws (Reading d′) m′ ls′ ws′
   unfolding progressIn afterLine
-  fed-good c d′ m′ ls′ ws′ k g i = record { sound = i; same = ap Progress.reading g ∙ sym k ∙ ap (λ x. continued n s x (caseIn d m ls ws)) e }
+  fed-good c d′ m′ ls′ ws′ k g i = record { sound = i; same = ap Progress.reading g ∙ sym k ∙ ap (λ x. extended n s x (caseIn d m ls ws)) e }
 
   module _ (of-labels : Bool) (space offset count : ℕ) (k : f ≡ Bytes of-labels space offset count) where
     -- what is known of such a line
@@ -130,13 +130,13 @@ module _ (n : ℕ) (s : List ℕ) {f : Frame} (e : f ≡ frameOf s) (d : Header)
     extent b r = ap (leb (offset + count)) (space-length (d .lengths) (h .stageFits .lengths) b r space)
 
     outside : leb (offset + count) (lengthOf (d .lengths) space) ≡ false → (b : Bool)
-        → continued n s (Bytes b space offset count) (caseIn d m ls ws) ≡ Progress.badLine n
-    unfolding continued caseIn
+        → extended n s (Bytes b space offset count) (caseIn d m ls ws) ≡ Progress.badLine n
+    unfolding extended caseIn
     outside g false = rw (extent m (h .memoryRoom), g)
     outside g true = rw (extent ls (h .labelRoom), g)
 
     pub fed-outside : leb (offset + count) (lengthOf (d .lengths) space) ≡ false → Fed n s (Reading d) m ls ws (BadLine n) m ls ws
-    fed-outside g = fed-bad (ap (λ x. continued n s x (caseIn d m ls ws)) k ∙ outside g of-labels)
+    fed-outside g = fed-bad (ap (λ x. extended n s x (caseIn d m ls ws)) k ∙ outside g of-labels)
 
     module _ (g : leb (offset + count) (lengthOf (d .lengths) space) ≡ true) where
       within : offset + count ≤ lengthOf (d .lengths) space
@@ -158,7 +158,7 @@ module _ (n : ℕ) (s : List ℕ) {f : Frame} (e : f ≡ frameOf s) (d : Header)
 
       pub fed-memory : of-labels ≡ false → {place : ℕ} → place ≡ (space - 2) * mostCaseBytes + offset → {m′ : List ℕ} → m′ ≡ sets m place (bytesOn count s)
           → Fed n s (Reading d) m ls ws (Reading d) m′ ls ws
-      unfolding continued caseIn withMemory
+      unfolding extended caseIn withMemory
       fed-memory o {place} p {m′} q =
           let r : m′ ≡ sets m ((space - 2) * mostCaseBytes + offset) (bytesOn count s) = q ∙ ap (λ x. sets m x (bytesOn count s)) p in
           fed-good (withMemory (caseIn d m ls ws) (stored (memoryIn (d .lengths) m) space offset (bytesOn count s))) d m′ ls ws
@@ -173,7 +173,7 @@ module _ (n : ℕ) (s : List ℕ) {f : Frame} (e : f ≡ frameOf s) (d : Header)
 
       pub fed-labels : of-labels ≡ true → {place : ℕ} → place ≡ (space - 2) * mostCaseBytes + offset → {ls′ : List ℕ} → ls′ ≡ sets ls place (bytesOn count s)
           → Fed n s (Reading d) m ls ws (Reading d) m ls′ ws
-      unfolding continued caseIn withLabels
+      unfolding extended caseIn withLabels
       fed-labels o {place} p {ls′} q =
           let r : ls′ ≡ sets ls ((space - 2) * mostCaseBytes + offset) (bytesOn count s) = q ∙ ap (λ x. sets ls x (bytesOn count s)) p in
           fed-good (withLabels (caseIn d m ls ws) (stored (memoryIn (d .lengths) ls) space offset (bytesOn count s))) d m ls′ ws
@@ -197,13 +197,13 @@ module _ (n : ℕ) (s : List ℕ) {f : Frame} (e : f ≡ frameOf s) (d : Header)
         rw (length-take-le (wordsPerOperation * d .operations) ws (omega (arith, h .wordRoom, h .stageFits .operations))) (omega arith)
 
     pub fed-full : d .operations ≡ mostCaseOperations → Fed n s (Reading d) m ls ws (BadLine n) m ls ws
-    unfolding continued caseIn
+    unfolding extended caseIn
     fed-full g = fed-bad (rw (k, counted, le-ltb (d .operations) mostCaseOperations (omega (arith, g))))
 
     pub fed-operation : (d .operations ≡ mostCaseOperations → ⊥) → {ws′ : List ℕ} → ws′ ≡ sets ws (wordsPerOperation * d .operations) (wordsOn s)
         → Fed n s (Reading d) m ls ws
         (Reading (record { settings = d .settings; lengths = d .lengths; budget = d .budget; operations = d .operations + 1 })) m ls ws′
-    unfolding continued caseIn withOperation
+    unfolding extended caseIn withOperation
     fed-operation g {ws′} q =
         let few : d .operations < mostCaseOperations = omega (arith, g, h .stageFits .operations) in
         fed-good (withOperation (caseIn d m ls ws) (wordsOn s)) _ m ls ws′

@@ -12,7 +12,7 @@ use lib.Seq.{take-all, take-nil, take-append-le, length-take-le, take-suc-set, t
 use Rattle.frame.specs.Frames.{frameOf}
 use Rattle.frame.specs.declared.Frame.the-variants.{Bad}
 use Rattle.frame.proofs.Laws.{long-bad}
-use Rattle.case_line.specs.Case.{Progress, continued, afterLine}
+use Rattle.case_line.specs.Case.{Progress, extended, afterLine}
 use Rattle.case_reader.specs.Text.{newline, linesOf, restOf, LinesRead, nextNumber, noLine, lineRead, linesRead}
 use Rattle.case_line.specs.Buffers.{progressIn, Fed}
 use Rattle.case_reader.specs.Stream.{lineRoom, ReaderFits, HasRead, Advanced}
@@ -60,7 +60,7 @@ read-more r (t ∷ ss) s = read-more (lineRead r t) ss s
 -- ---- a line longer than its room is bad, whole or cut
 
 bad-alike : (n : ℕ) (s t : List ℕ) (p : Progress) → frameOf s ≡ Bad → frameOf t ≡ Bad → afterLine n s p ≡ afterLine n t p
-unfolding afterLine continued
+unfolding afterLine extended
 bad-alike n s t Progress.nothing e f = rw (e, f)
 bad-alike n s t (Progress.reading c) e f = rw (e, f)
 bad-alike n s t (Progress.badLine k) e f = refl

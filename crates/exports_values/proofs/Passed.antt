@@ -1,4 +1,4 @@
--- What holds of a call in which no fault was found. Assumes nothing.
+-- What holds of a call in which no fault was found.
 use Prim.Native.Nat.{ℕ, _+_, _^_, _≤_, _<_}
 use mathlib.Core.Bool.{Bool, true, false, cond, not, _&&_}
 use mathlib.Core.Path.{_≡_}

@@ -1,4 +1,4 @@
--- How many bytes of a varnode are shown. Assumes nothing.
+-- How many bytes of a varnode are shown.
 use Prim.Native.Nat.{ℕ, _+_, _≤_}
 use mathlib.Core.Bool.{Bool, true, false, cond}
 use mathlib.Core.List.{List}

@@ -1,4 +1,4 @@
--- Laws of the operations bit by bit, each once over the number of bits. Assumes nothing.
+-- Laws of the operations bit by bit, each once over the number of bits.
 use mathlib.Core.Path.{_≡_, refl, sym, ap, ap₂, _∙_, subst}
 use Prim.Native.Nat.{ℕ, zero, suc, _+_, _-_, _*_, _/_, _%_, _^_, _<_, min, max}
 use native.Mathlib.Nat.{mod-lt, mod-eq-of-lt, add-zero, add-mul, one-mul, add-comm, mul-add-mod-self-right}

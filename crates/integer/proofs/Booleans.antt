@@ -1,4 +1,4 @@
--- Laws of Booleans. Assumes nothing.
+-- Laws of Booleans.
 use mathlib.Core.Path.{_≡_, refl}
 use mathlib.Core.Bool.{Bool, true, false, cond, not, xor, _&&_, _||_}
 use native.Mathlib.Omega.{arith}

@@ -1,4 +1,4 @@
--- Signed division and its remainder. Assumes nothing.
+-- Signed division and its remainder.
 use Prim.Native.Nat.{ℕ, zero, suc, _*_, _/_, _%_, _^_, _-_, _≤_, _<_}
 use mathlib.Core.Bool.{Bool, true, false, xor}
 use mathlib.Core.Path.{_≡_, refl, sym, ap, ap₂, _∙_, subst}

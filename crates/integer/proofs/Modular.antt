@@ -1,4 +1,4 @@
--- `wrap size` takes sums, products and opposites of integers to those modulo 256^size. Assumes nothing.
+-- `wrap size` takes sums, products and opposites of integers to those modulo 256^size.
 use mathlib.Core.Path.{_≡_, refl, sym, ap, _∙_}
 use mathlib.Core.Bool.{Bool, true, false}
 use Prim.Native.Nat.{ℕ, zero, suc, _+_, _-_, _*_, _/_, _%_, _^_, _<_}

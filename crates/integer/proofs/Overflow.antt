@@ -1,4 +1,4 @@
--- Sums and differences of two's complement values: when they overflow a size, told from the signs. Assumes nothing.
+-- Sums and differences of two's complement values: when they overflow a size, told from the signs.
 use Prim.Native.Nat.{ℕ, suc, _+_, _*_, _/_, _%_, _^_, _-_, _≤_, _<_}
 use mathlib.Core.Bool.{Bool, true, false, not, xor, Bool·beq, _&&_, _||_}
 use mathlib.Core.Path.{_≡_, refl, sym, ap, ap₂, _∙_}
@@ -91,8 +91,8 @@ module _ (s x y : ℕ) (h : 1 ≤ s) where
 -- ---- the code's tests, by the signs of a, b and their sum or difference c
 
 -- the sum's sign differs from both
-abbrev carried : Bool → Bool → Bool → Bool
-carried na nb nc = xor nc na && xor nc nb
+abbrev applied : Bool → Bool → Bool → Bool
+applied na nb nc = xor nc na && xor nc nb
 
 -- the difference's sign differs from that of a, and is that of b
 abbrev borrowed : Bool → Bool → Bool → Bool
@@ -119,12 +119,12 @@ agrees false true = refl
 agrees false false = refl
 
 -- numbers of different signs carry nothing, and of one sign borrow nothing
-carried-apart : (t u : Bool) → false ≡ carried (not u) (not (not u)) (not t)
+applied-apart : (t u : Bool) → false ≡ applied (not u) (not (not u)) (not t)
 unfolding xor
-carried-apart true true = refl
-carried-apart true false = refl
-carried-apart false true = refl
-carried-apart false false = refl
+applied-apart true true = refl
+applied-apart true false = refl
+applied-apart false true = refl
+applied-apart false false = refl
 
 borrowed-alike : (t u : Bool) → false ≡ borrowed (not u) (not u) (not t)
 unfolding xor
@@ -146,7 +146,7 @@ module _ (s a b : ℕ) (hs : 1 ≤ s) (ha : a < 256 ^ s) (hb : b < 256 ^ s) wher
       → f (not ta) (not tb) (not tc) ≡ f (negative (signed s a)) (negative (signed s b)) (negative (signed s c))
   signs f c ta tb tc hc ea eb ec = rw (sign-is s a ha, sign-is s b hb, sign-is s c hc, ea, eb, ec)
 
-  pub carry-by-signs : (c : ℕ) → c ≡ (a + b) % 256 ^ s → overflows s (signed s a +ℤ signed s b) ≡ carried (negative (signed s a)) (negative (signed s b)) (negative (signed s c))
+  pub carry-by-signs : (c : ℕ) → c ≡ (a + b) % 256 ^ s → overflows s (signed s a +ℤ signed s b) ≡ applied (negative (signed s a)) (negative (signed s b)) (negative (signed s c))
   unfolding xor
   carry-by-signs c e = by (ltb (2 * a) (256 ^ s)) (ltb (2 * b) (256 ^ s)) (ltb (2 * c) (256 ^ s)) refl refl refl
     where
@@ -160,35 +160,35 @@ module _ (s a b : ℕ) (hs : 1 ≤ s) (ha : a < 256 ^ s) (hb : b < 256 ^ s) wher
       again l = e ∙ mod-eq-sub-mod l ∙ mod-eq-of-lt (omega arith)
 
       by : (ta tb tc : Bool) → ltb (2 * a) (256 ^ s) ≡ ta → ltb (2 * b) (256 ^ s) ≡ tb → ltb (2 * c) (256 ^ s) ≡ tc
-          → overflows s (signed s a +ℤ signed s b) ≡ carried (negative (signed s a)) (negative (signed s b)) (negative (signed s c))
+          → overflows s (signed s a +ℤ signed s b) ≡ applied (negative (signed s a)) (negative (signed s b)) (negative (signed s c))
       by true true true ea eb ec =
           let la : 2 * a < 256 ^ s = ltb-true _ _ ea in let lb : 2 * b < 256 ^ s = ltb-true _ _ eb in let lc : 2 * c < 256 ^ s = ltb-true _ _ ec in
           let f : c ≡ a + b = once (omega arith) in
           ap (overflows s) (sum-is 0 0 (from-low s a la) (from-low s b lb)) ∙ inside s (a + b) (0 + 0) hs (omega (arith, even s hs)) (omega (arith, even s hs))
-          ∙ signs carried c true true true hc ea eb ec
+          ∙ signs applied c true true true hc ea eb ec
       by true true false ea eb ec =
           let la : 2 * a < 256 ^ s = ltb-true _ _ ea in let lb : 2 * b < 256 ^ s = ltb-true _ _ eb in let lc : 256 ^ s ≤ 2 * c = ltb-false _ _ ec in
           let f : c ≡ a + b = once (omega arith) in
           ap (overflows s) (sum-is 0 0 (from-low s a la) (from-low s b lb)) ∙ above s (a + b) (0 + 0) hs (omega (arith, even s hs))
-          ∙ signs carried c true true false hc ea eb ec
+          ∙ signs applied c true true false hc ea eb ec
       by true false tc ea eb ec =
           let la : 2 * a < 256 ^ s = ltb-true _ _ ea in let lb : 256 ^ s ≤ 2 * b = ltb-false _ _ eb in
           ap (overflows s) (sum-is 0 (256 ^ s) (from-low s a la) (from-high s b lb)) ∙ inside s (a + b) (0 + 256 ^ s) hs (omega (arith, even s hs)) (omega (arith, even s hs))
-          ∙ carried-apart tc true ∙ signs carried c true false tc hc ea eb ec
+          ∙ applied-apart tc true ∙ signs applied c true false tc hc ea eb ec
       by false true tc ea eb ec =
           let la : 256 ^ s ≤ 2 * a = ltb-false _ _ ea in let lb : 2 * b < 256 ^ s = ltb-true _ _ eb in
           ap (overflows s) (sum-is (256 ^ s) 0 (from-high s a la) (from-low s b lb)) ∙ inside s (a + b) (256 ^ s + 0) hs (omega (arith, even s hs)) (omega (arith, even s hs))
-          ∙ carried-apart tc false ∙ signs carried c false true tc hc ea eb ec
+          ∙ applied-apart tc false ∙ signs applied c false true tc hc ea eb ec
       by false false true ea eb ec =
           let la : 256 ^ s ≤ 2 * a = ltb-false _ _ ea in let lb : 256 ^ s ≤ 2 * b = ltb-false _ _ eb in let lc : 2 * c < 256 ^ s = ltb-true _ _ ec in
           let f : c ≡ a + b - 256 ^ s = again (omega arith) in
           ap (overflows s) (sum-is (256 ^ s) (256 ^ s) (from-high s a la) (from-high s b lb)) ∙ under s (a + b) (256 ^ s + 256 ^ s) hs (omega (arith, even s hs))
-          ∙ signs carried c false false true hc ea eb ec
+          ∙ signs applied c false false true hc ea eb ec
       by false false false ea eb ec =
           let la : 256 ^ s ≤ 2 * a = ltb-false _ _ ea in let lb : 256 ^ s ≤ 2 * b = ltb-false _ _ eb in let lc : 256 ^ s ≤ 2 * c = ltb-false _ _ ec in
           let f : c ≡ a + b - 256 ^ s = again (omega arith) in
           ap (overflows s) (sum-is (256 ^ s) (256 ^ s) (from-high s a la) (from-high s b lb)) ∙ inside s (a + b) (256 ^ s + 256 ^ s) hs (omega (arith, even s hs)) (omega (arith, even s hs))
-          ∙ signs carried c false false false hc ea eb ec
+          ∙ signs applied c false false false hc ea eb ec
 
   pub borrow-by-signs : (c : ℕ) → c ≡ intSub s a b → overflows s (signed s a -ℤ signed s b) ≡ borrowed (negative (signed s a)) (negative (signed s b)) (negative (signed s c))
   unfolding xor intSub wrap

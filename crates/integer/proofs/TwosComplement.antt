@@ -1,5 +1,5 @@
 -- Two's complement values over the size, and the language's signed operations on them. `toZ w64` reads the bits of an i64 and
--- `ofZ w64` writes them; `SFits w64 z` says that an i64 holds z. Assumes nothing.
+-- `ofZ w64` writes them; `SFits w64 z` says that an i64 holds z.
 use Prim.Native.Nat.{ℕ, zero, suc, _*_, _/_, _%_, _^_, _-_, _≤_, _<_}
 use mathlib.Core.Bool.{true, false}
 use mathlib.Core.Path.{_≡_, refl, sym, ap, ap₂, _∙_, subst}

@@ -1,4 +1,4 @@
--- Laws of the operations on whole numbers, each once over the size. Assumes nothing.
+-- Laws of the operations on whole numbers, each once over the size.
 use mathlib.Core.Path.{subst, _≡_, refl, sym, ap, ap₂, _∙_}
 use mathlib.Core.Bool.{Bool, true, false}
 use Prim.Native.Nat.{ℕ, zero, suc, _+_, _-_, _*_, _/_, _%_, _^_, _≤_, _<_}

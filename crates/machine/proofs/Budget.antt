@@ -11,7 +11,7 @@ use Rattle.operation.specs.Layout.{operationCount}
 use Rattle.machine.specs.Program.{Program}
 use Rattle.machine.specs.Memory.{Memory}
 use Rattle.machine.specs.Effect.{Operation, Kind, operationAt}
-use Rattle.machine.specs.Run.{Stop, Decision, Position, Ended, Stepped, endingOf, advanced, ended, carriedOut, performedAs, performed, stepped, continued, run}
+use Rattle.machine.specs.Run.{Stop, Decision, Position, Ended, Stepped, endingOf, advanced, ended, applyDecision, executeAs, execute, stepped, continued, run}
 use Rattle.machine.proofs.Cases.{either, either₂}
 
 -- ---- an operation never stops for the budget
@@ -27,16 +27,16 @@ stop-ending Stop.bounds h = omega arith
 stop-ending Stop.zeroDivisor h = omega arith
 stop-ending Stop.logFull h = omega arith
 
-carried-goes : (program : Program) (k : Kind) (op : Operation) (at : Position) (labels m : Memory) (x : ℕ) (d : Decision) → Goes (carriedOut program k op at labels m x d)
-unfolding carriedOut ended
-carried-goes program k op at labels m x (Decision.stop e) = halts (stop-ending e)
-carried-goes program k op at labels m x (Decision.exit words d) = halts (λ (h : _≡_ {A = ℕ} 1 2). omega arith)
-carried-goes program k op at labels m x (Decision.next words i) = goes
+applied-goes : (program : Program) (k : Kind) (op : Operation) (at : Position) (labels m : Memory) (x : ℕ) (d : Decision) → Goes (applyDecision program k op at labels m x d)
+unfolding applyDecision ended
+applied-goes program k op at labels m x (Decision.stop e) = halts (stop-ending e)
+applied-goes program k op at labels m x (Decision.exit words d) = halts (λ (h : _≡_ {A = ℕ} 1 2). omega arith)
+applied-goes program k op at labels m x (Decision.next words i) = goes
 
 stepped-goes : (program : Program) (at : Position) (labels m : Memory) → Goes (stepped program at labels m)
-unfolding stepped performed performedAs ended
+unfolding stepped execute executeAs ended
 stepped-goes program at labels m =
-    either Goes (ltb (at .index) (operationCount (program .list))) _ _ (carried-goes program _ (operationAt (program .list) (at .index)) at labels m _ _) (halts (λ (h : _≡_ {A = ℕ} 0 2). omega arith))
+    either Goes (ltb (at .index) (operationCount (program .list))) _ _ (applied-goes program _ (operationAt (program .list) (at .index)) at labels m _ _) (halts (λ (h : _≡_ {A = ℕ} 0 2). omega arith))
 
 -- ---- the budgets add up
 
@@ -112,17 +112,17 @@ unfolding advanced later
 advanced-later c words at i vs = rw (add-suc, append-assoc)
 
 module _ (c : ℕ) (words : List ℕ) (program : Program) where
-  carried-later : (k : Kind) (op : Operation) (at : Position) (labels m : Memory) (x : ℕ) (d : Decision)
-      → Later c words (carriedOut program k op (later c words at) labels m x d) (carriedOut program k op at labels m x d)
-  unfolding carriedOut ended laterEnded later
-  carried-later k op at labels m x (Decision.stop e) = halts
-  carried-later k op at labels m x (Decision.exit vs d) = rw (advanced-later c words at (at .index) vs) halts
-  carried-later k op at labels m x (Decision.next vs i) = rw (advanced-later c words at i vs) goes
+  applied-later : (k : Kind) (op : Operation) (at : Position) (labels m : Memory) (x : ℕ) (d : Decision)
+      → Later c words (applyDecision program k op (later c words at) labels m x d) (applyDecision program k op at labels m x d)
+  unfolding applyDecision ended laterEnded later
+  applied-later k op at labels m x (Decision.stop e) = halts
+  applied-later k op at labels m x (Decision.exit vs d) = rw (advanced-later c words at (at .index) vs) halts
+  applied-later k op at labels m x (Decision.next vs i) = rw (advanced-later c words at i vs) goes
 
   stepped-later : (at : Position) (labels m : Memory) → Later c words (stepped program (later c words at) labels m) (stepped program at labels m)
-  unfolding stepped performed performedAs later laterEnded ended
+  unfolding stepped execute executeAs later laterEnded ended
   stepped-later at labels m =
-      either₂ (Later c words) (ltb (at .index) (operationCount (program .list))) _ _ _ _ (carried-later _ (operationAt (program .list) (at .index)) at labels m _ _) halts
+      either₂ (Later c words) (ltb (at .index) (operationCount (program .list))) _ _ _ _ (applied-later _ (operationAt (program .list) (at .index)) at labels m _ _) halts
 
   continued-later : (f : Position → Memory → Memory → Ended) → ((at : Position) (labels m : Memory) → f (later c words at) labels m ≡ laterEnded c words (f at labels m))
       → {a b : Stepped} → Later c words a b → continued f a ≡ laterEnded c words (continued f b)

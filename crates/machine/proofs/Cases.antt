@@ -1,4 +1,4 @@
--- What holds in both cases of a condition holds of the condition. Assumes nothing.
+-- What holds in both cases of a condition holds of the condition.
 use mathlib.Core.Bool.{Bool, true, false, cond}
 use mathlib.Core.Path.{_≡_}
 

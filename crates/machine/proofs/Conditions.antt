@@ -11,19 +11,19 @@ use Rattle.word.specs.Word.{part, valueOf, bytesOf}
 use Rattle.word.proofs.Laws.{part-length, part-bytes, value-lt}
 use Rattle.arithmetic.specs.Result.{lookup, result}
 use Rattle.integer.specs.Operations.{flag, piece, subpiece, intZext}
-use Rattle.arithmetic.specs.Operands.{among, divides}
+use Rattle.arithmetic.specs.Operands.{member, divides}
 use Rattle.integer.proofs.Booleans.{or-false, both, neither}
 use Rattle.operation.specs.declared.layout.Settings.{Settings}
 use Rattle.operation.specs.declared.layout.Varnode.{Varnode}
 use Rattle.machine.specs.Program.{Program, bigEndian}
 use Rattle.machine.specs.Memory.{Memory, OfBytes, lengthsOf, spaceOf, withSpace, bytesAt, written, valueAt}
-use Rattle.machine.specs.Effect.{Operation, operationAt, Kind, kindOf, moves, dropped, computed, absent, anySecret, secret, guarded, tested, valuesOf, pointed}
+use Rattle.machine.specs.Effect.{Operation, operationAt, Kind, kindOf, moves, dropped, computed, absent, anySecret, secret, sinks, tested, valuesOf, pointee}
 use Rattle.machine.specs.Effect.{sources, target, bytesWritten, labelsWritten}
 use Rattle.machine.specs.Run.{Stop, Decision, Position, Stepped, indexOf, goTo, logWord, logging, access, checked, decided, advanced, ended, endingOf, testedValue}
-use Rattle.machine.specs.Run.{carriedOut, performedAs, performed, stepped, continued, run}
-use Rattle.machine.specs.Conditions.{hasSecret, leaks, pastItsSpace, taken, branchTaken, outOfBounds, dividesByZero, writesLog, lowPart, logWordOf, exits}
-use Rattle.machine.specs.Conditions.{destination, nextIndex, destinationBytes, becomesSecret, valueComputed, valueMoved, valueWritten, positionAfter, toldWith}
-use Rattle.machine.specs.Conditions.{labelsAfter, told, toldWithin, Words, ExactConditions}
+use Rattle.machine.specs.Run.{applyDecision, executeAs, execute, stepped, continued, run}
+use Rattle.machine.specs.Conditions.{hasSecret, leaks, exceedsSpace, taken, branchTaken, outOfBounds, dividesByZero, writesLog, lowPart, logWordOf, exits}
+use Rattle.machine.specs.Conditions.{destination, nextIndex, destinationBytes, becomesSecret, valueComputed, valueMoved, valueWritten, positionAfter, exactStepWith}
+use Rattle.machine.specs.Conditions.{labelsAfter, exactStep, exactStepWithin, Words, ExactConditions}
 use Rattle.operation.specs.Rules.{accesses, namesSpace, isDestination, breaksPlace, branches, jumps, relativeTarget}
 use Rattle.operation.specs.Layout.{wordsPerOperation, operationCount, wordAt, offsetAt, describedBy, varnodeAt}
 use Rattle.operation.proofs.Targets.{wrapping}
@@ -146,14 +146,14 @@ record Class : Type 0 where
 classOf : ℕ → Class
 classOf n = record {
   kind = kindOf n;
-  pointer = among n (2 ∷ 3 ∷ []);
+  pointer = member n (2 ∷ 3 ∷ []);
   condition = eqb n 5;
-  indirect = among n (6 ∷ 8 ∷ 9 ∷ []);
-  divisor = among n (35 ∷ 36 ∷ 37 ∷ 38 ∷ []);
+  indirect = member n (6 ∷ 8 ∷ 9 ∷ []);
+  divisor = member n (35 ∷ 36 ∷ 37 ∷ 38 ∷ []);
   loads = eqb n 2;
   stores = eqb n 3;
-  logs = among n (2 ∷ 3 ∷ 5 ∷ []);
-  direct = among n (4 ∷ 7 ∷ []);
+  logs = member n (2 ∷ 3 ∷ 5 ∷ []);
+  direct = member n (4 ∷ 7 ∷ []);
 }
 
 -- a class without any condition
@@ -267,8 +267,8 @@ pub record Formed (settings : Settings) (m : Memory) (i : ℕ) (op : Operation) 
   pub fits2 : valueAt settings m (op .input2) < 256 ^ op .input2 .size
 
 module _ (program : Program) (op : Operation) (at : Position) (labels m : Memory) where
-  toldBy : (leak outside byZero due leaves : Bool) (word to next : ℕ) → Varnode → (hidden : Bool) (value : ℕ) → Stepped
-  toldBy leak outside byZero due leaves word to next place hidden value =
+  exactStepBy : (leak outside byZero due leaves : Bool) (word to next : ℕ) → Varnode → (hidden : Bool) (value : ℕ) → Stepped
+  exactStepBy leak outside byZero due leaves word to next place hidden value =
       cond leak (Stepped.halted (ended 31 0 at labels m))
       (cond outside (Stepped.halted (ended 32 0 at labels m))
       (cond byZero (Stepped.halted (ended 33 0 at labels m))
@@ -285,11 +285,11 @@ module _ (program : Program) (op : Operation) (at : Position) (labels m : Memory
   abbrev b : ℕ
   b = valueAt (program .settings) m (op .input1)
 
-  told-by : told program op at labels m
-      ≡ toldBy (leaks labels op) (outOfBounds m op b) (dividesByZero op b) (writesLog op) (exits op b) (logWordOf op (at .index) b)
+  exactStep-by : exactStep program op at labels m
+      ≡ exactStepBy (leaks labels op) (outOfBounds m op b) (dividesByZero op b) (writesLog op) (exits op b) (logWordOf op (at .index) b)
       (destination op a) (nextIndex op (at .index) b) (destinationBytes op b) (becomesSecret labels op b) (valueWritten program m op a b)
-  unfolding told toldWith labelsAfter toldBy positionAfter
-  told-by = refl
+  unfolding exactStep exactStepWith labelsAfter exactStepBy positionAfter
+  exactStep-by = refl
 
   -- what a kind writes, with x as the value of what must be public, is what is told
   record Writes (k : Kind) (x : ℕ) (place : Varnode) (hidden : Bool) (value : ℕ) : Type 0 where
@@ -299,9 +299,9 @@ module _ (program : Program) (op : Operation) (at : Position) (labels m : Memory
         ≡ written m place (bytesOf (bigEndian (program .settings)) (place .size) value)
 
   goes : (k : Kind) (x i : ℕ) (words : List ℕ) {place : Varnode} {hidden : Bool} {value : ℕ} → Writes k x place hidden value
-      → carriedOut program k op at labels m x (Decision.next words i)
+      → applyDecision program k op at labels m x (Decision.next words i)
       ≡ Stepped.going (advanced at i words) (written labels place (replicate (place .size) (flag hidden))) (written m place (bytesOf (bigEndian (program .settings)) (place .size) value))
-  unfolding carriedOut
+  unfolding applyDecision
   goes k x i words w = rw (w .labelled, w .stored) refl
 
   writes : (k : Kind) (x : ℕ) (place : Varnode) (hidden : Bool) (value : ℕ) → target k op x ≡ place → secret labels (sources k op x) ≡ hidden
@@ -311,45 +311,45 @@ module _ (program : Program) (op : Operation) (at : Position) (labels m : Memory
 
   module _ (word to next : ℕ) (place : Varnode) (hidden : Bool) (value : ℕ) where
     -- a kind with nothing that must be public, and nothing to check
-    unchecked : (k : Kind) → guarded k op ≡ [] → ((i extent room x : ℕ) → checked k op i extent room x ≡ Decision.next [] (suc i))
+    unchecked : (k : Kind) → sinks k op ≡ [] → ((i extent room x : ℕ) → checked k op i extent room x ≡ Decision.next [] (suc i))
         → next ≡ suc (at .index) → Writes k (testedValue program k op m) place hidden value
-        → performedAs program k op at labels m ≡ toldBy false false false false false word to next place hidden value
-    unfolding performedAs decided testedValue tested secret toldBy
+        → executeAs program k op at labels m ≡ exactStepBy false false false false false word to next place hidden value
+    unfolding executeAs decided testedValue tested secret exactStepBy
     unchecked k e f n w = rw (e, f, n) (goes k _ (suc (at .index)) [] w)
 
     jumped : to ≡ a
-        → performedAs program Kind.jump op at labels m ≡ toldBy (hasSecret labels (op .input0)) false false false true word to next place hidden value
-    unfolding performedAs guarded testedValue tested toldBy carriedOut decided checked endingOf
+        → executeAs program Kind.jump op at labels m ≡ exactStepBy (hasSecret labels (op .input0)) false false false true word to next place hidden value
+    unfolding executeAs sinks testedValue tested exactStepBy applyDecision decided checked endingOf
     jumped e = rw (one-secret labels (op .input0), ← e) (by (hasSecret labels (op .input0)))
       where
-        by : (t : Bool) → carriedOut program Kind.jump op at labels m to (cond t (Decision.stop Stop.leak) (Decision.exit [] to))
-            ≡ toldBy t false false false true word to next place hidden value
+        by : (t : Bool) → applyDecision program Kind.jump op at labels m to (cond t (Decision.stop Stop.leak) (Decision.exit [] to))
+            ≡ exactStepBy t false false false true word to next place hidden value
         by true = refl
         by false = refl
 
     divided : next ≡ suc (at .index) → (hasSecret labels (op .input1) ≡ false → Writes Kind.divide (b) place hidden value)
-        → performedAs program Kind.divide op at labels m
-        ≡ toldBy (hasSecret labels (op .input1)) false (eqb (b) 0) false false word to next place hidden value
-    unfolding performedAs guarded testedValue tested toldBy carriedOut decided checked endingOf
+        → executeAs program Kind.divide op at labels m
+        ≡ exactStepBy (hasSecret labels (op .input1)) false (eqb (b) 0) false false word to next place hidden value
+    unfolding executeAs sinks testedValue tested exactStepBy applyDecision decided checked endingOf
     divided n w = rw (one-secret labels (op .input1), n) (by (hasSecret labels (op .input1)) refl (eqb (b) 0))
       where
         by : (t : Bool) → hasSecret labels (op .input1) ≡ t → (z : Bool)
-            → carriedOut program Kind.divide op at labels m (b)
+            → applyDecision program Kind.divide op at labels m (b)
             (cond t (Decision.stop Stop.leak) (cond z (Decision.stop Stop.zeroDivisor) (Decision.next [] (suc (at .index)))))
-            ≡ toldBy t false z false false word to (suc (at .index)) place hidden value
+            ≡ exactStepBy t false z false false word to (suc (at .index)) place hidden value
         by true e z = refl
         by false e true = refl
         by false e false = goes Kind.divide (b) (suc (at .index)) [] (w e)
 
     -- LOAD and STORE
-    accessed : (k : Kind) (size : ℕ) → guarded k op ≡ op .input1 ∷ [] → tested k op ≡ op .input1
+    accessed : (k : Kind) (size : ℕ) → sinks k op ≡ op .input1 ∷ [] → tested k op ≡ op .input1
         → ((i extent room x : ℕ) → checked k op i extent room x ≡ access i extent room x size)
         → next ≡ suc (at .index) → word ≡ logWord (at .index) (b)
         → (hasSecret labels (op .input1) ≡ false → Writes k (b) place hidden value)
-        → performedAs program k op at labels m
-        ≡ toldBy (hasSecret labels (op .input1)) (not (leb (b + size) (length (spaceOf m (op .input0 .offset))))) false true false
+        → executeAs program k op at labels m
+        ≡ exactStepBy (hasSecret labels (op .input1)) (not (leb (b + size) (length (spaceOf m (op .input0 .offset))))) false true false
         word to next place hidden value
-    unfolding performedAs testedValue tested toldBy carriedOut decided access logging endingOf
+    unfolding executeAs testedValue tested exactStepBy applyDecision decided access logging endingOf
     accessed k size g u c n l w =
         rw (g, u, c, one-secret labels (op .input1), n, l)
         (by (hasSecret labels (op .input1)) refl (leb (b + size) (length (spaceOf m (op .input0 .offset)))) (eqb (at .room) 0))
@@ -358,7 +358,7 @@ module _ (program : Program) (op : Operation) (at : Position) (labels m : Memory
         written-word = logWord (at .index) (b)
 
         by : (t : Bool) → hasSecret labels (op .input1) ≡ t → (u z : Bool)
-            → carriedOut program k op at labels m (b)
+            → applyDecision program k op at labels m (b)
             (cond t (Decision.stop Stop.leak) (cond u (cond z (Decision.stop Stop.logFull) (Decision.next (written-word ∷ []) (suc (at .index)))) (Decision.stop Stop.bounds)))
             ≡ cond t (Stepped.halted (ended 31 0 at labels m))
             (cond (not u) (Stepped.halted (ended 32 0 at labels m))
@@ -380,31 +380,31 @@ module _ (program : Program) (op : Operation) (at : Position) (labels m : Memory
       }
 
       gone : (words : List ℕ) → Destination (at .index) (op .input0)
-          → carriedOut program k op at labels m x (goTo (at .index) (op .input0) words)
+          → applyDecision program k op at labels m x (goTo (at .index) (op .input0) words)
           ≡ cond (eqb (op .input0 .space) 4) (Stepped.halted (ended 1 (op .input0 .offset) (advanced at (at .index) words) labels m))
           (Stepped.going (advanced at (cond (eqb (op .input0 .space) 1) ((at .index + op .input0 .offset) % 2 ^ 64) (suc (at .index))) words)
           (written labels place (replicate (place .size) (flag hidden))) (written m place (bytesOf (bigEndian (program .settings)) (place .size) value)))
-      unfolding goTo carriedOut
+      unfolding goTo applyDecision
       gone words (inList s f l) = rw (s, f, l) (goes k x ((at .index + op .input0 .offset) % 2 ^ 64) words writes-nothing)
       gone words (inRam s f) = rw (s, f) refl
 
     branched : to ≡ op .input0 .offset → next ≡ cond (eqb (op .input0 .space) 1) ((at .index + op .input0 .offset) % 2 ^ 64) (suc (at .index))
         → place ≡ absent → Destination (at .index) (op .input0)
-        → performedAs program Kind.branch op at labels m ≡ toldBy false false false false (eqb (op .input0 .space) 4) word to next place hidden value
-    unfolding performedAs guarded testedValue tested secret decided checked toldBy target
+        → executeAs program Kind.branch op at labels m ≡ exactStepBy false false false false (eqb (op .input0 .space) 4) word to next place hidden value
+    unfolding executeAs sinks testedValue tested secret decided checked exactStepBy target
     branched t n e d = rw (t, n) (gone Kind.branch _ refl e [] d)
 
     cbranched : word ≡ logWord (at .index) (flag (not (eqb (b) 0))) → to ≡ op .input0 .offset
         → next ≡ cond (not (eqb (b) 0) && eqb (op .input0 .space) 1) ((at .index + op .input0 .offset) % 2 ^ 64) (suc (at .index))
         → place ≡ absent → Destination (at .index) (op .input0)
-        → performedAs program Kind.cbranch op at labels m
-        ≡ toldBy (hasSecret labels (op .input1)) false false true (not (eqb (b) 0) && eqb (op .input0 .space) 4) word to next place hidden value
-    unfolding performedAs guarded testedValue tested decided checked carriedOut toldBy target logging flag endingOf
+        → executeAs program Kind.cbranch op at labels m
+        ≡ exactStepBy (hasSecret labels (op .input1)) false false true (not (eqb (b) 0) && eqb (op .input0 .space) 4) word to next place hidden value
+    unfolding executeAs sinks testedValue tested decided checked applyDecision exactStepBy target logging flag endingOf
     cbranched l t n e d =
         rw (one-secret labels (op .input1), l, t, n) (by (hasSecret labels (op .input1)) (eqb (b) 0) (eqb (at .room) 0))
       where
         by : (t z f : Bool)
-            → carriedOut program Kind.cbranch op at labels m (b)
+            → applyDecision program Kind.cbranch op at labels m (b)
             (cond t (Decision.stop Stop.leak)
             (cond z (cond f (Decision.stop Stop.logFull) (Decision.next (logWord (at .index) 0 ∷ []) (suc (at .index))))
             (cond f (Decision.stop Stop.logFull) (goTo (at .index) (op .input0) (logWord (at .index) 1 ∷ [])))))
@@ -424,33 +424,33 @@ module _ (program : Program) (op : Operation) (at : Position) (labels m : Memory
             (writes-nothing Kind.cbranch (b) refl e)
         by false false false = gone Kind.cbranch (b) refl e (logWord (at .index) 1 ∷ []) d
 
-  toldAs : Class → Stepped
-  toldAs c =
+  exactStepAs : Class → Stepped
+  exactStepAs c =
       let s0 : Bool = hasSecret labels (op .input0) in
       let s1 : Bool = hasSecret labels (op .input1) in
-      toldBy
+      exactStepBy
       ((c .pointer && s1) || (c .condition && s1) || (c .indirect && s0) || (c .divisor && s1))
-      ((c .loads && pastItsSpace m (pointed op b (op .output .size))) || (c .stores && pastItsSpace m (pointed op b (op .input2 .size))))
+      ((c .loads && exceedsSpace m (pointee op b (op .output .size))) || (c .stores && exceedsSpace m (pointee op b (op .input2 .size))))
       (c .divisor && eqb b 0)
       (c .logs)
       (((c .direct || (c .condition && not (eqb b 0))) && eqb (op .input0 .space) 4) || c .indirect)
       (at .index * 2 ^ 32 + cond (c .condition) (flag (c .condition && not (eqb b 0))) b)
       (cond (c .indirect) (a) (op .input0 .offset))
       (cond ((c .direct || (c .condition && not (eqb b 0))) && eqb (op .input0 .space) 1) ((at .index + op .input0 .offset) % 2 ^ 64) (suc (at .index)))
-      (cond (c .stores) (pointed op b (op .input2 .size)) (op .output))
-      (cond (c .stores) (hasSecret labels (op .input2)) (s0 || s1 || (c .loads && hasSecret labels (pointed op b (op .output .size)))))
+      (cond (c .stores) (pointee op b (op .input2 .size)) (op .output))
+      (cond (c .stores) (hasSecret labels (op .input2)) (s0 || s1 || (c .loads && hasSecret labels (pointee op b (op .output .size)))))
       (valueWritten program m op a b)
 
-  told-as : (c : Class) → classOf (op .opcode) ≡ c → performedAs program (c .kind) op at labels m ≡ toldAs c → performed program op at labels m ≡ told program op at labels m
-  unfolding classOf toldAs performed leaks outOfBounds dividesByZero writesLog exits taken branchTaken lowPart logWordOf destination nextIndex destinationBytes becomesSecret
-  told-as c e h =
-      ap (λ (d : Class). performedAs program (d .kind) op at labels m) e ∙ h ∙ sym (ap toldAs e) ∙ sym told-by
+  exactStep-as : (c : Class) → classOf (op .opcode) ≡ c → executeAs program (c .kind) op at labels m ≡ exactStepAs c → execute program op at labels m ≡ exactStep program op at labels m
+  unfolding classOf exactStepAs execute leaks outOfBounds dividesByZero writesLog exits taken branchTaken lowPart logWordOf destination nextIndex destinationBytes becomesSecret
+  exactStep-as c e h =
+      ap (λ (d : Class). executeAs program (d .kind) op at labels m) e ∙ h ∙ sym (ap exactStepAs e) ∙ sym exactStep-by
 
   -- ---- one operation, by its class
 
   module _ (bytes : OfBytes m) (f : Formed (program .settings) m (at .index) op) where
     abbrev pub Meets : Type 0
-    Meets = performed program op at labels m ≡ told program op at labels m
+    Meets = execute program op at labels m ≡ exactStep program op at labels m
 
     -- the bytes written are those of the value written
     abbrev Bytes : (size : ℕ) → List Varnode → Type 0
@@ -462,25 +462,25 @@ module _ (program : Program) (op : Operation) (at : Position) (labels m : Memory
 
     meets-copy : classOf (op .opcode) ≡ free Kind.copy → hasPlace (op .opcode) 2 ≡ false
         → Bytes (op .output .size) (op .input0 ∷ []) → Meets
-    unfolding free toldAs guarded checked target sources
+    unfolding free exactStepAs sinks checked target sources
     meets-copy c p e =
-        told-as (free Kind.copy) c
+        exactStep-as (free Kind.copy) c
         (unchecked _ _ _ _ _ _ Kind.copy refl (λ i extent room x. refl) refl
         (writes Kind.copy _ _ _ _ refl (unread-input1 (absent-public labels (op .input1) (f .noInput1 p))) e))
 
     meets-subpiece : classOf (op .opcode) ≡ free Kind.subpiece → op .input1 .space ≡ 1
         → Bytes (op .output .size) (op .input0 ∷ []) → Meets
-    unfolding free toldAs guarded checked target sources
+    unfolding free exactStepAs sinks checked target sources
     meets-subpiece c p e =
-        told-as (free Kind.subpiece) c
+        exactStep-as (free Kind.subpiece) c
         (unchecked _ _ _ _ _ _ Kind.subpiece refl (λ i extent room x. refl) refl
         (writes Kind.subpiece _ _ _ _ refl (unread-input1 (constant-public labels (op .input1) p)) e))
 
     meets-piece : classOf (op .opcode) ≡ free Kind.piece
         → Bytes (op .output .size) (op .input1 ∷ op .input0 ∷ []) → Meets
-    unfolding free toldAs guarded checked target sources
+    unfolding free exactStepAs sinks checked target sources
     meets-piece c e =
-        told-as (free Kind.piece) c
+        exactStep-as (free Kind.piece) c
         (unchecked _ _ _ _ _ _ Kind.piece refl (λ i extent room x. refl) refl
         (writes Kind.piece _ _ _ _ refl
         (two-secret labels (op .input1) (op .input0) ∙ or-commutes (hasSecret labels (op .input1)) (hasSecret labels (op .input0)) ∙ sym (or-false _)) e))
@@ -490,44 +490,44 @@ module _ (program : Program) (op : Operation) (at : Position) (labels m : Memory
 
     meets-compute : classOf (op .opcode) ≡ free Kind.compute
         → Bytes (op .output .size) (op .input0 ∷ op .input1 ∷ []) → Meets
-    unfolding free toldAs guarded checked target sources
+    unfolding free exactStepAs sinks checked target sources
     meets-compute c e =
-        told-as (free Kind.compute) c
+        exactStep-as (free Kind.compute) c
         (unchecked _ _ _ _ _ _ Kind.compute refl (λ i extent room x. refl) refl (writes Kind.compute _ _ _ _ refl both-read e))
 
     meets-divide : classOf (op .opcode) ≡ divisions
         → Bytes (op .output .size) (op .input0 ∷ op .input1 ∷ []) → Meets
-    unfolding divisions toldAs target sources
-    meets-divide c e = told-as divisions c (divided _ _ _ _ _ _ refl (λ p. writes Kind.divide _ _ _ _ refl both-read e))
+    unfolding divisions exactStepAs target sources
+    meets-divide c e = exactStep-as divisions c (divided _ _ _ _ _ _ refl (λ p. writes Kind.divide _ _ _ _ refl both-read e))
 
     meets-jump : classOf (op .opcode) ≡ indirectBranches → Meets
-    unfolding indirectBranches toldAs
-    meets-jump c = told-as indirectBranches c (rw (or-false (hasSecret labels (op .input0))) (jumped _ _ _ _ _ _ refl))
+    unfolding indirectBranches exactStepAs
+    meets-jump c = exactStep-as indirectBranches c (rw (or-false (hasSecret labels (op .input0))) (jumped _ _ _ _ _ _ refl))
 
     meets-branch : classOf (op .opcode) ≡ directBranches → op .output ≡ absent → Destination (at .index) (op .input0) → Meets
-    unfolding directBranches toldAs
-    meets-branch c e d = told-as directBranches c (rw (or-false (eqb (op .input0 .space) 4)) (branched _ _ _ _ _ _ refl refl e d))
+    unfolding directBranches exactStepAs
+    meets-branch c e d = exactStep-as directBranches c (rw (or-false (eqb (op .input0 .space) 4)) (branched _ _ _ _ _ _ refl refl e d))
 
     meets-cbranch : classOf (op .opcode) ≡ conditionalBranch → op .output ≡ absent → Destination (at .index) (op .input0) → Meets
-    unfolding conditionalBranch toldAs logWord
+    unfolding conditionalBranch exactStepAs logWord
     meets-cbranch c e d =
-        told-as conditionalBranch c
+        exactStep-as conditionalBranch c
         (rw (or-false (hasSecret labels (op .input1)), or-false (hasSecret labels (op .input1)), or-false (not (eqb (b) 0) && eqb (op .input0 .space) 4))
         (cbranched _ _ _ _ _ _ refl refl refl e d))
 
-    pointed-fits : accesses (op .opcode) ≡ true → (size : ℕ) → valueAt (program .settings) m (pointed op b size) < 256 ^ size
-    unfolding pointed namesSpace
-    pointed-fits a size =
+    pointee-fits : accesses (op .opcode) ≡ true → (size : ℕ) → valueAt (program .settings) m (pointee op b size) < 256 ^ size
+    unfolding pointee namesSpace
+    pointee-fits a size =
         let n = both (eqb (op .input0 .space) 1 && leb 2 (op .input0 .offset)) (leb (op .input0 .offset) 4) (f .named a) in
         let l = both (eqb (op .input0 .space) 1) (leb 2 (op .input0 .offset)) (n .0) in
-        value-fits (program .settings) m (pointed op b size) bytes
+        value-fits (program .settings) m (pointee op b size) bytes
         (λ e. let k : 2 ≤ op .input0 .offset = leb-true 2 (op .input0 .offset) (l .1) in absurd (let z : ⊥ = omega arith in z))
 
     meets-load : classOf (op .opcode) ≡ load → op .input0 .space ≡ 1
-        → Bytes (op .output .size) (pointed op b (op .output .size) ∷ []) → Meets
-    unfolding load toldAs guarded tested checked target sources pointed pastItsSpace logWord
+        → Bytes (op .output .size) (pointee op b (op .output .size) ∷ []) → Meets
+    unfolding load exactStepAs sinks tested checked target sources pointee exceedsSpace logWord
     meets-load c s e =
-        told-as load c
+        exactStep-as load c
         (rw (
           or-false (hasSecret labels (op .input1)),
           or-false (hasSecret labels (op .input1)),
@@ -535,13 +535,13 @@ module _ (program : Program) (op : Operation) (at : Position) (labels m : Memory
           or-false (not (leb (b + op .output .size) (length (spaceOf m (op .input0 .offset))))),
         )
         (accessed _ _ _ _ _ _ Kind.load (op .output .size) refl refl (λ i extent room x. refl) refl refl
-        (λ p. writes Kind.load _ _ _ _ refl (one-secret labels (pointed op b (op .output .size)) ∙ rw (p, constant-public labels (op .input0) s) refl) e)))
+        (λ p. writes Kind.load _ _ _ _ refl (one-secret labels (pointee op b (op .output .size)) ∙ rw (p, constant-public labels (op .input0) s) refl) e)))
 
     meets-store : classOf (op .opcode) ≡ store
         → Bytes (op .input2 .size) (op .input2 ∷ []) → Meets
-    unfolding store toldAs guarded tested checked target sources pointed pastItsSpace logWord
+    unfolding store exactStepAs sinks tested checked target sources pointee exceedsSpace logWord
     meets-store c e =
-        told-as store c
+        exactStep-as store c
         (rw (or-false (hasSecret labels (op .input1)), or-false (hasSecret labels (op .input1)), or-false (hasSecret labels (op .input1)))
         (accessed _ _ _ _ _ _ Kind.store (op .input2 .size) refl refl (λ i extent room x. refl) refl refl
         (λ p. writes Kind.store _ _ _ _ refl (one-secret labels (op .input2)) e)))
@@ -549,38 +549,38 @@ module _ (program : Program) (op : Operation) (at : Position) (labels m : Memory
     -- ---- one operation, by its opcode
 
     bytes-copy : op .opcode ≡ 1 → Bytes (op .output .size) (op .input0 ∷ [])
-    unfolding valueWritten valueMoved valueComputed moves dropped among branches
+    unfolding valueWritten valueMoved valueComputed moves dropped member branches
     bytes-copy e = moved-whole (program .settings) op m (op .input0) (op .output .size) (rw e refl) (rw e refl) bytes (f .fits0 (rw e refl)) ∙ rw e refl
 
     bytes-zext : op .opcode ≡ 19 → Bytes (op .output .size) (op .input0 ∷ [])
-    unfolding valueWritten valueMoved valueComputed result lookup intZext moves dropped among branches
+    unfolding valueWritten valueMoved valueComputed result lookup intZext moves dropped member branches
     bytes-zext e = moved-whole (program .settings) op m (op .input0) (op .output .size) (rw e refl) (rw e refl) bytes (f .fits0 (rw e refl)) ∙ rw e refl
 
-    bytes-load : op .opcode ≡ 2 → Bytes (op .output .size) (pointed op b (op .output .size) ∷ [])
-    unfolding valueWritten valueMoved valueComputed moves dropped among accesses pointed
+    bytes-load : op .opcode ≡ 2 → Bytes (op .output .size) (pointee op b (op .output .size) ∷ [])
+    unfolding valueWritten valueMoved valueComputed moves dropped member accesses pointee
     bytes-load e =
-        moved-whole (program .settings) op m (pointed op b (op .output .size)) (op .output .size) (rw e refl) (rw e refl) bytes (pointed-fits (rw e refl) (op .output .size)) ∙ rw e refl
+        moved-whole (program .settings) op m (pointee op b (op .output .size)) (op .output .size) (rw e refl) (rw e refl) bytes (pointee-fits (rw e refl) (op .output .size)) ∙ rw e refl
 
     bytes-store : op .opcode ≡ 3 → Bytes (op .input2 .size) (op .input2 ∷ [])
-    unfolding valueWritten valueMoved valueComputed moves dropped among
+    unfolding valueWritten valueMoved valueComputed moves dropped member
     bytes-store e = moved-whole (program .settings) op m (op .input2) (op .input2 .size) (rw e refl) (rw e refl) bytes (f .fits2) ∙ rw e refl
 
     bytes-computed : moves op ≡ false → Bytes (op .output .size) (op .input0 ∷ op .input1 ∷ [])
-    unfolding valueWritten valueMoved valueComputed moves among
+    unfolding valueWritten valueMoved valueComputed moves member
     bytes-computed e =
         calculated (program .settings) op m (op .output .size) e
-        ∙ (let n1 = neither (eqb (op .opcode) 1) (among (op .opcode) (2 ∷ 3 ∷ 10 ∷ 11 ∷ 19 ∷ [])) e in
-        let n2 = neither (eqb (op .opcode) 2) (among (op .opcode) (3 ∷ 10 ∷ 11 ∷ 19 ∷ [])) (n1 .1) in
-        let n3 = neither (eqb (op .opcode) 3) (among (op .opcode) (10 ∷ 11 ∷ 19 ∷ [])) (n2 .1) in
+        ∙ (let n1 = neither (eqb (op .opcode) 1) (member (op .opcode) (2 ∷ 3 ∷ 10 ∷ 11 ∷ 19 ∷ [])) e in
+        let n2 = neither (eqb (op .opcode) 2) (member (op .opcode) (3 ∷ 10 ∷ 11 ∷ 19 ∷ [])) (n1 .1) in
+        let n3 = neither (eqb (op .opcode) 3) (member (op .opcode) (10 ∷ 11 ∷ 19 ∷ [])) (n2 .1) in
         rw (n1 .0, n2 .0, n3 .0) refl)
 
     bytes-piece : op .opcode ≡ 10 → Bytes (op .output .size) (op .input1 ∷ op .input0 ∷ [])
-    unfolding valueWritten valueMoved valueComputed result lookup piece moves dropped among branches
+    unfolding valueWritten valueMoved valueComputed result lookup piece moves dropped member branches
     bytes-piece e =
         moved-both (program .settings) op m (op .input0) (op .input1) (op .output .size) (rw e refl) (rw e refl) bytes (f .fits0 (rw e refl)) (f .fits1) ∙ rw e refl
 
     bytes-subpiece : op .opcode ≡ 11 → Bytes (op .output .size) (op .input0 ∷ [])
-    unfolding valueWritten valueMoved valueComputed result lookup subpiece moves dropped among branches
+    unfolding valueWritten valueMoved valueComputed result lookup subpiece moves dropped member branches
     bytes-subpiece e =
         moved-part (program .settings) op m (op .input0) (op .input1 .offset) (op .output .size) (rw e refl) (rw e refl) bytes (f .fits0 (rw e refl))
         ∙ ap (λ (k : ℕ). bytesOf (bigEndian (program .settings)) (op .output .size) (subpiece (op .output .size) a k)) (sym (constant-value (program .settings) m (op .input1) (f .constant1 e)))
@@ -593,7 +593,7 @@ module _ (program : Program) (op : Operation) (at : Position) (labels m : Memory
         eqb-true (op .input0 .space) 1 (both (eqb (op .input0 .space) 1) (leb 2 (op .input0 .offset)) (n .0) .0)
 
     pub meets : Meets
-    unfolding classOf kindOf branches jumps divides accesses among moves hasPlace outputs inputs rowOf shapes free divisions indirectBranches directBranches conditionalBranch load store
+    unfolding classOf kindOf branches jumps divides accesses member moves hasPlace outputs inputs rowOf shapes free divisions indirectBranches directBranches conditionalBranch load store
     meets =
         when (op .opcode) 1 (λ e. meets-copy (ap classOf e) (rw e refl) (bytes-copy e)) (λ n1.
         when (op .opcode) 2 (λ e. meets-load (ap classOf e) (names-a-space (rw e refl)) (bytes-load e)) (λ n2.
@@ -678,16 +678,16 @@ few-operations lengths list e =
 
 -- at n, END
 at-end : (program : Program) (budget : ℕ) (at : Position) (labels m : Memory) → ltb (at .index) (operationCount (program .list)) ≡ false
-    → run program budget at labels m ≡ continued (run program (budget - 1)) (toldWithin program budget at labels m)
-unfolding run stepped toldWithin continued
+    → run program budget at labels m ≡ continued (run program (budget - 1)) (exactStepWithin program budget at labels m)
+unfolding run stepped exactStepWithin continued
 at-end program zero at labels m e = rw (e, le-leb (operationCount (program .list)) (at .index) (ltb-false (at .index) (operationCount (program .list)) e)) refl
 at-end program (suc budget) at labels m e = rw (e, le-leb (operationCount (program .list)) (at .index) (ltb-false (at .index) (operationCount (program .list)) e)) refl
 
 -- before n, BUDGET or the operation
 at-operation : (program : Program) (budget : ℕ) (at : Position) (labels m : Memory) → ltb (at .index) (operationCount (program .list)) ≡ true
-    → performed program (operationAt (program .list) (at .index)) at labels m ≡ told program (operationAt (program .list) (at .index)) at labels m
-    → run program budget at labels m ≡ continued (run program (budget - 1)) (toldWithin program budget at labels m)
-unfolding run stepped toldWithin continued
+    → execute program (operationAt (program .list) (at .index)) at labels m ≡ exactStep program (operationAt (program .list) (at .index)) at labels m
+    → run program budget at labels m ≡ continued (run program (budget - 1)) (exactStepWithin program budget at labels m)
+unfolding run stepped exactStepWithin continued
 at-operation program zero at labels m e h = rw (e, lt-leb (operationCount (program .list)) (at .index) (ltb-true (at .index) (operationCount (program .list)) e)) refl
 at-operation program (suc budget) at labels m e h =
     let less : suc budget - 1 ≡ budget = omega arith in
@@ -697,7 +697,7 @@ pub exact-conditions : ExactConditions
 exact-conditions program budget at labels m words b v = by (ltb (at .index) (operationCount (program .list))) refl
   where
     by : (t : Bool) → ltb (at .index) (operationCount (program .list)) ≡ t
-        → run program budget at labels m ≡ continued (run program (budget - 1)) (toldWithin program budget at labels m)
+        → run program budget at labels m ≡ continued (run program (budget - 1)) (exactStepWithin program budget at labels m)
     by true e =
         let z = verdict-zero (program .settings) (lengthsOf m) (program .list) v in
         let small = few-operations (lengthsOf m) (program .list) (z .1) in

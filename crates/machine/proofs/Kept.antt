@@ -16,7 +16,7 @@ use Rattle.operation.specs.Layout.{operationCount}
 use Rattle.machine.specs.Program.{Program}
 use Rattle.machine.specs.Memory.{Memory, lengthsOf, spaceOf, withSpace, written}
 use Rattle.machine.specs.Effect.{Operation, Kind, operationAt, sources, target, secret, labelsWritten}
-use Rattle.machine.specs.Run.{Stop, Decision, Position, Ended, Stepped, logging, goTo, access, checked, decided, advanced, ended, carriedOut, performedAs, performed, stepped, continued, run}
+use Rattle.machine.specs.Run.{Stop, Decision, Position, Ended, Stepped, logging, goTo, access, checked, decided, advanced, ended, applyDecision, executeAs, execute, stepped, continued, run}
 use Rattle.machine.specs.Calls.{allLabels, labelsInRange, starting}
 use Rattle.machine.proofs.Cases.{either}
 
@@ -139,13 +139,13 @@ module _ (words : ℕ) (spaces : Lengths) (marks : Memory) (program : Program) w
   unfolding advanced
   advanced-log at i vs h e = rw (length-append (at .log) vs) (omega (arith, h, e))
 
-  carried-kept : (k : Kind) (op : Operation) (at : Position) (labels m : Memory) (x : ℕ) {d : Decision} → Fits (at .room) d
-      → Kept words spaces marks at labels m → KeptStep (carriedOut program k op at labels m x d)
-  unfolding carriedOut ended labelsWritten
-  carried-kept k op at labels m x stops h = halts h
-  carried-kept k op at labels m x (exits l) h =
+  applied-kept : (k : Kind) (op : Operation) (at : Position) (labels m : Memory) (x : ℕ) {d : Decision} → Fits (at .room) d
+      → Kept words spaces marks at labels m → KeptStep (applyDecision program k op at labels m x d)
+  unfolding applyDecision ended labelsWritten
+  applied-kept k op at labels m x stops h = halts h
+  applied-kept k op at labels m x (exits l) h =
       halts (record { log = advanced-log at _ _ l (h .log); memory = h .memory; lengths = h .lengths; values = h .values })
-  carried-kept k op at labels m x (nexts l) h =
+  applied-kept k op at labels m x (nexts l) h =
       goes (record {
         log = advanced-log at _ _ l (h .log);
         memory = written-lengths m (target k op x) _ ∙ h .memory;
@@ -154,10 +154,10 @@ module _ (words : ℕ) (spaces : Lengths) (marks : Memory) (program : Program) w
       })
 
   stepped-kept : (at : Position) (labels m : Memory) → Kept words spaces marks at labels m → KeptStep (stepped program at labels m)
-  unfolding stepped performed performedAs ended
+  unfolding stepped execute executeAs ended
   stepped-kept at labels m h =
       either KeptStep (ltb (at .index) (operationCount (program .list))) _ _
-      (carried-kept _ (operationAt (program .list) (at .index)) at labels m _ (decided-fits _ _ _ _ _ _ _) h) (halts h)
+      (applied-kept _ (operationAt (program .list) (at .index)) at labels m _ (decided-fits _ _ _ _ _ _ _) h) (halts h)
 
   continued-kept : (f : Position → Memory → Memory → Ended)
       → ((at : Position) (labels m : Memory) → Kept words spaces marks at labels m

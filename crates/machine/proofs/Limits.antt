@@ -12,10 +12,10 @@ use Rattle.operation.specs.Layout.{operationCount}
 use Rattle.machine.specs.Program.{Program, programOf}
 use Rattle.machine.specs.Memory.{Memory, lengthsOf}
 use Rattle.machine.specs.Effect.{Operation, Kind, operationAt}
-use Rattle.machine.specs.Run.{Stop, Decision, Position, Ended, Stepped, endingOf, advanced, ended, carriedOut, performedAs, performed, stepped, continued, run}
+use Rattle.machine.specs.Run.{Stop, Decision, Position, Ended, Stepped, endingOf, advanced, ended, applyDecision, executeAs, execute, stepped, continued, run}
 use Rattle.machine.specs.Calls.{Outcome, sameLengths, labelsInRange, logAfter, outcomeOf, starting, called, labelledRun, unlabelled, plainRun}
 use Rattle.machine.specs.Limits.{Unchanged, Limited, afterOperations, stateOf, Limits}
-use Rattle.machine.proofs.Refusals.{Refuses, refusal-refuses, nothing-ran, not-stopped}
+use Rattle.machine.proofs.Refusals.{Refuses, refusal-refuses, refusal-report, not-stopped}
 use Rattle.machine.proofs.Kept.{started-kept}
 use Rattle.machine.proofs.Cases.{either}
 
@@ -35,19 +35,19 @@ stop-large Stop.bounds = omega arith
 stop-large Stop.zeroDivisor = omega arith
 stop-large Stop.logFull = omega arith
 
-carried-counts : (program : Program) (k : Kind) (op : Operation) (at : Position) (labels m : Memory) (x : ℕ) (d : Decision)
-    → Counts at labels m (carriedOut program k op at labels m x d)
-unfolding carriedOut ended advanced
-carried-counts program k op at labels m x (Decision.stop e) =
+applied-counts : (program : Program) (k : Kind) (op : Operation) (at : Position) (labels m : Memory) (x : ℕ) (d : Decision)
+    → Counts at labels m (applyDecision program k op at labels m x d)
+unfolding applyDecision ended advanced
+applied-counts program k op at labels m x (Decision.stop e) =
     stays {r = ended (endingOf e) 0 at labels m} (λ x y. omega (arith, stop-large e, y)) (λ z. omega (arith, stop-large e, z)) refl refl refl
-carried-counts program k op at labels m x (Decision.exit words d) =
+applied-counts program k op at labels m x (Decision.exit words d) =
     exits {r = ended 1 d (advanced at (at .index) words) labels m} refl refl
-carried-counts program k op at labels m x (Decision.next words i) = goes refl
+applied-counts program k op at labels m x (Decision.next words i) = goes refl
 
 stepped-counts : (program : Program) (at : Position) (labels m : Memory) → Counts at labels m (stepped program at labels m)
-unfolding stepped performed performedAs ended
+unfolding stepped execute executeAs ended
 stepped-counts program at labels m =
-    either (Counts at labels m) (ltb (at .index) (operationCount (program .list))) _ _ (carried-counts program _ (operationAt (program .list) (at .index)) at labels m _ _)
+    either (Counts at labels m) (ltb (at .index) (operationCount (program .list))) _ _ (applied-counts program _ (operationAt (program .list) (at .index)) at labels m _ _)
     (stays {r = ended 0 0 at labels m} (λ (x : 10 ≤ 0) y. omega (arith, x)) (λ (h : _≡_ {A = ℕ} 0 2). omega arith) refl refl refl)
 
 -- ---- the run
@@ -103,7 +103,7 @@ module _ (settings : Settings) (list : List ℕ) (start budget : ℕ) (log : Lis
           → Unchanged log labels m (cond t (outcomeOf log runs) lent)
       by true x y = absurd (run-counts (programOf settings list) budget (starting start (length log)) labels m .ending x y)
       by false x y =
-          let n = nothing-ran rs in
+          let n = refusal-report rs in
           record { sameMemory = refl; sameLabels = refl; sameLog = refl; executed = n .0; logged = n .1; value = n .2 }
 
   called-limited : Limited budget log (called settings list start budget log labels m refused)
@@ -122,7 +122,7 @@ module _ (settings : Settings) (list : List ℕ) (start budget : ℕ) (log : Lis
             sameLength = log-length (runs .position .log) log w;
           }
       by false =
-          let n = nothing-ran rs in
+          let n = refusal-report rs in
           record { executed = omega (arith, n .0); stopped = λ z. absurd (not-stopped rs z); logged = omega (arith, n .1); sameLength = refl }
 
 abbrev goesOn : Stepped → ℕ

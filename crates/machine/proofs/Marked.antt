@@ -5,30 +5,30 @@ use Rattle.word.specs.Sum.{sum, tabulate, digit}
 use Rattle.word.specs.Word.{part, significance, valueOf, bytesOf}
 use Rattle.integer.specs.Integers.{signed, wrap, negative, overflows, withSign, quotient, remainder}
 use Rattle.integer.specs.Operations.{flag, piece, subpiece, popcount, intAdd, intSub, intCarry, intScarry, intSborrow, intLeft, intSright, intSdiv, intSrem}
-use Rattle.arithmetic.specs.Operands.{among, unary, divides, sizesAgree}
+use Rattle.arithmetic.specs.Operands.{member, unary, divides, sizesAgree}
 use Rattle.arithmetic.specs.Result.{lookup, result}
 use Rattle.operation.specs.Layout.{operationCount, wordAt, headByte, opcodeAt, descriptorAt, offsetAt, describedBy, varnodeAt}
 use Rattle.operation.specs.Shapes.{shapes, rowOf, outputs, inputs, hasPlace}
 use Rattle.operation.specs.Rules.{breaksHead, describesVarnode, breaksShape, breaksShapeAt, accesses, branches, jumps, namesSpace, isDestination, breaksPlace, lengthOf}
 use Rattle.operation.specs.Rules.{beyond, breaksRange, breaksSize, relativeTarget, targetOutside, breaksTarget}
-use Rattle.validation.specs.Verdict.{settingsInRange, lengthsInRange, anyBelow, anyPlace, sizeOrTarget, lowestRule, firstMalformed, nothingRan, malformed}
+use Rattle.validation.specs.Verdict.{settingsInRange, lengthsInRange, anyBelow, anyPlace, sizeOrTarget, lowestRule, firstMalformed, refusalReport, malformed}
 use Rattle.machine.specs.Program.{bigEndian}
 use Rattle.machine.specs.Memory.{lengthsOf, spaceOf, withSpace, bytesAt, written, valueAt, ordered, digitsAt}
-use Rattle.machine.specs.Effect.{operationAt, absent, kindOf, guarded, tested, pointed, sources, target, moves, dropped, digitsOf, valuesOf, computed, bytesWritten}
+use Rattle.machine.specs.Effect.{operationAt, absent, kindOf, sinks, tested, pointee, sources, target, moves, dropped, digitsOf, valuesOf, computed, bytesWritten}
 use Rattle.machine.specs.Effect.{anySecret, secret, labelsWritten}
-use Rattle.machine.specs.Run.{endingOf, indexOf, goTo, checked, decided, advanced, ended, testedValue, carriedOut, performedAs, performed, stepped, continued, run}
+use Rattle.machine.specs.Run.{endingOf, indexOf, goTo, checked, decided, advanced, ended, testedValue, applyDecision, executeAs, execute, stepped, continued, run}
 use Rattle.machine.specs.Calls.{refusal, logAfter, outcomeOf, starting, called, unlabelled, plainRun}
 use Rattle.machine.specs.Marked.{Marked}
 
 pub marked : Marked
 unfolding xor sum tabulate digit part significance valueOf bytesOf signed wrap negative overflows withSign quotient remainder flag piece subpiece
-    popcount intAdd intSub intCarry intScarry intSborrow intLeft intSright intSdiv intSrem among unary divides sizesAgree lookup result operationCount
+    popcount intAdd intSub intCarry intScarry intSborrow intLeft intSright intSdiv intSrem member unary divides sizesAgree lookup result operationCount
     wordAt headByte opcodeAt descriptorAt offsetAt describedBy varnodeAt shapes rowOf outputs inputs hasPlace breaksHead describesVarnode breaksShape
     breaksShapeAt accesses branches jumps namesSpace isDestination breaksPlace lengthOf beyond breaksRange breaksSize relativeTarget targetOutside
-    breaksTarget settingsInRange lengthsInRange anyBelow anyPlace sizeOrTarget lowestRule firstMalformed nothingRan malformed lengthsOf spaceOf
-    withSpace bytesAt written valueAt ordered digitsAt operationAt absent kindOf guarded pointed sources target moves dropped digitsOf valuesOf
-    computed bytesWritten anySecret secret labelsWritten endingOf indexOf goTo checked decided advanced ended testedValue tested bigEndian carriedOut
-    performedAs performed stepped continued run refusal logAfter outcomeOf starting called unlabelled plainRun
+    breaksTarget settingsInRange lengthsInRange anyBelow anyPlace sizeOrTarget lowestRule firstMalformed refusalReport malformed lengthsOf spaceOf
+    withSpace bytesAt written valueAt ordered digitsAt operationAt absent kindOf sinks pointee sources target moves dropped digitsOf valuesOf
+    computed bytesWritten anySecret secret labelsWritten endingOf indexOf goTo checked decided advanced ended testedValue tested bigEndian applyDecision
+    executeAs execute stepped continued run refusal logAfter outcomeOf starting called unlabelled plainRun
 marked = record {
   add-wraps = (refl, refl);
   add-carries = (refl, refl);

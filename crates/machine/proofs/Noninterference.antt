@@ -17,7 +17,7 @@ use Rattle.machine.specs.Run.{Position, Ended, run}
 use Rattle.machine.specs.Calls.{Outcome, sameLengths, labelsInRange, refusal, logAfter, outcomeOf, starting, called, labelledRun, unlabelled, plainRun}
 use Rattle.machine.specs.Noninterference.{LowEquivalent, Indistinguishable, Labelled, PlainAlike, Noninterference}
 use Rattle.machine.proofs.Pointwise.{Spaces, each-from, each-at, spaces-space, spaces-lengths}
-use Rattle.machine.proofs.Refusals.{refusal-refuses, nothing-ran, unfitting}
+use Rattle.machine.proofs.Refusals.{refusal-refuses, refusal-report, unfitting}
 use Rattle.machine.proofs.Secrecy.{Public, SameView, run-view}
 use Rattle.machine.proofs.Plain.{SameRun, run-same}
 
@@ -77,7 +77,7 @@ module _ (settings : Settings) (list : List ℕ) (start budget : ℕ) where
   unfolding labelledRun
   labelled-view log log′ e labels m n l =
       rw (← (l .lengths))
-      (called-view log log′ e labels m n _ (nothing-ran (refusal-refuses settings (lengthsOf m) list start _ _) .1) l
+      (called-view log log′ e labels m n _ (refusal-report (refusal-refuses settings (lengthsOf m) list start _ _) .1) l
       (fits (sameLengths (lengthsOf labels) (lengthsOf m)) refl))
     where
       fits : (t : Bool) → sameLengths (lengthsOf labels) (lengthsOf m) ≡ t
@@ -120,7 +120,7 @@ module _ (settings : Settings) (list : List ℕ) (start budget : ℕ) where
       → PlainAlike (labelledRun settings list start budget log labels m) (plainRun settings list start budget log′ m)
   unfolding labelledRun plainRun
   plain-same log labels m l ne log′ e =
-      let none = nothing-ran (refusal-refuses settings (lengthsOf m) list start true true) .1 in
+      let none = refusal-report (refusal-refuses settings (lengthsOf m) list start true true) .1 in
       rw (l .lengths, l .values) (called-same log log′ e labels m (refusal settings (lengthsOf m) list start true true) none (rw (l .lengths, l .values) at ne))
 
 pub noninterference : Noninterference

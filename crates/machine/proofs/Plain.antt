@@ -12,7 +12,7 @@ use Rattle.operation.specs.Layout.{operationCount}
 use Rattle.machine.specs.Program.{Program}
 use Rattle.machine.specs.Memory.{Memory, spaceOf, withSpace, bytesAt, written}
 use Rattle.machine.specs.Effect.{Operation, Kind, operationAt, anySecret, secret}
-use Rattle.machine.specs.Run.{Decision, Position, Ended, Stepped, decided, checked, ended, endingOf, carriedOut, performedAs, performed, stepped, continued, run}
+use Rattle.machine.specs.Run.{Decision, Position, Ended, Stepped, decided, checked, ended, endingOf, applyDecision, executeAs, execute, stepped, continued, run}
 use Rattle.machine.specs.Calls.{unlabelled}
 use Rattle.machine.proofs.Cases.{either-equal, either₂}
 
@@ -63,21 +63,21 @@ module _ (program : Program) (labels m : Memory) where
   unfolding ended
   ended-same e v at = record { ending = refl; value = refl; position = refl; memory = refl }
 
-  carried-same : (k : Kind) (op : Operation) (at : Position) (x : ℕ) (d : Decision)
-      → SameSteps (carriedOut program k op at unlabelled m x d) (carriedOut program k op at labels m x d)
-  unfolding carriedOut
-  carried-same k op at x (Decision.stop e) = halts (ended-same _ 0 at)
-  carried-same k op at x (Decision.exit words d) = halts (ended-same 1 d _)
-  carried-same k op at x (Decision.next words i) = rw nothing-written goes
+  applied-same : (k : Kind) (op : Operation) (at : Position) (x : ℕ) (d : Decision)
+      → SameSteps (applyDecision program k op at unlabelled m x d) (applyDecision program k op at labels m x d)
+  unfolding applyDecision
+  applied-same k op at x (Decision.stop e) = halts (ended-same _ 0 at)
+  applied-same k op at x (Decision.exit words d) = halts (ended-same 1 d _)
+  applied-same k op at x (Decision.next words i) = rw nothing-written goes
 
   decided-same : (t : Bool) (k : Kind) (op : Operation) (at : Position) (i extent room x : ℕ)
-      → SameSteps (carriedOut program k op at unlabelled m x (decided false k op i extent room x)) (carriedOut program k op at labels m x (decided t k op i extent room x))
-  unfolding decided carriedOut ended endingOf
+      → SameSteps (applyDecision program k op at unlabelled m x (decided false k op i extent room x)) (applyDecision program k op at labels m x (decided t k op i extent room x))
+  unfolding decided applyDecision ended endingOf
   decided-same true k op at i extent room x = leaks refl
-  decided-same false k op at i extent room x = carried-same k op at x (checked k op i extent room x)
+  decided-same false k op at i extent room x = applied-same k op at x (checked k op i extent room x)
 
   stepped-same : (at : Position) → SameSteps (stepped program at unlabelled m) (stepped program at labels m)
-  unfolding stepped performed performedAs
+  unfolding stepped execute executeAs
   stepped-same at =
       rw nothing-secret
       (either₂ SameSteps (ltb (at .index) (operationCount (program .list))) _ _ _ _ (decided-same _ _ (operationAt (program .list) (at .index)) at _ _ _ _) (halts (ended-same 0 0 at)))

@@ -1,5 +1,5 @@
 -- Three lists, or three memories, related at each place: kept by reading and writing. No law here speaks of an operation, or of what the
--- relation is. Assumes nothing.
+-- relation is.
 use Prim.Native.Nat.{ℕ, zero, suc, _+_, _<_}
 use native.Mathlib.Omega.{arith}
 use mathlib.Core.Path.{_≡_, refl, ap}

@@ -1,4 +1,4 @@
--- The refusals before anything runs. Assumes nothing.
+-- The refusals before anything runs.
 use Prim.Native.Nat.{ℕ, zero, suc, _+_, _<_}
 use native.Mathlib.Omega.{arith}
 use mathlib.Core.Path.{_≡_, refl}
@@ -12,7 +12,7 @@ use Rattle.operation.specs.declared.report.Report.{Report}
 use Rattle.operation.specs.Layout.{operationCount, opcodeAt, varnodeAt}
 use Rattle.operation.specs.Rules.{breaksHead, breaksShapeAt, breaksPlace, breaksRange, breaksSize, breaksTarget}
 use Rattle.validation.specs.declared.Malformed.{Malformed}
-use Rattle.validation.specs.Verdict.{settingsInRange, lengthsInRange, anyPlace, sizeOrTarget, lowestRule, firstMalformed, malformed, nothingRan}
+use Rattle.validation.specs.Verdict.{settingsInRange, lengthsInRange, anyPlace, sizeOrTarget, lowestRule, firstMalformed, malformed, refusalReport}
 use Rattle.machine.specs.Calls.{refusal}
 use Rattle.machine.proofs.Cases.{either}
 
@@ -43,7 +43,7 @@ first-not-two f h (suc m) i e = by (eqb (f i) 0) (firstMalformed f m (i + 1)) (f
 
 -- a report of a call in which nothing ran, and which was not stopped by BUDGET
 pub data Refuses : Report → Type 0 where
-  refuses : (ending index : ℕ) → (ending ≡ 2 → ⊥) → Refuses (nothingRan ending index)
+  refuses : (ending index : ℕ) → (ending ≡ 2 → ⊥) → Refuses (refusalReport ending index)
 
 pub refusal-refuses : (settings : Settings) (lengths : Lengths) (list : List ℕ) (start : ℕ) (fitting valid : Bool)
     → Refuses (refusal settings lengths list start fitting valid)
@@ -57,20 +57,20 @@ refusal-refuses settings lengths list start fitting valid =
     (either Refuses (not (eqb (found .rule) 0)) _ _ (refuses (found .rule) (found .index) (first-not-two rule (rule-not-two (settings .«address_size») lengths list) (operationCount list) 0))
     (either Refuses (ltb (operationCount list) start) _ _ (refuses 27 0 (λ h. omega arith)) (refuses 0 0 (λ h. omega arith))))))
 
-pub nothing-ran : {r : Report} → Refuses r → (r .executed ≡ 0) × (r .logged ≡ 0) × (r .value ≡ 0)
-unfolding nothingRan
-nothing-ran (refuses e i h) = (refl, refl, refl)
+pub refusal-report : {r : Report} → Refuses r → (r .executed ≡ 0) × (r .logged ≡ 0) × (r .value ≡ 0)
+unfolding refusalReport
+refusal-report (refuses e i h) = (refl, refl, refl)
 
 pub not-stopped : {r : Report} → Refuses r → r .ending ≡ 2 → ⊥
-unfolding nothingRan
+unfolding refusalReport
 not-stopped (refuses e i h) = h
 
 -- ---- what is not refused at one start is not refused at another within the list
 
 pub restarted : (settings : Settings) (lengths : Lengths) (list : List ℕ) (start again : ℕ) (fitting valid : Bool)
     → eqb (refusal settings lengths list start fitting valid .ending) 0 ≡ true → again < operationCount list
-    → refusal settings lengths list again fitting true ≡ nothingRan 0 0
-unfolding refusal nothingRan
+    → refusal settings lengths list again fitting true ≡ refusalReport 0 0
+unfolding refusal refusalReport
 restarted settings lengths list start again fitting valid e h =
     by (settingsInRange settings) (lengthsInRange lengths list && fitting) valid (eqb (found .rule) 0) refl (ltb (operationCount list) start) e
   where
@@ -79,14 +79,14 @@ restarted settings lengths list start again fitting valid e h =
 
     refused : (s l v r x : Bool) → Report
     refused s l v r x =
-        cond (not s) (nothingRan 10 0) (cond (not l) (nothingRan 11 0) (cond (not v) (nothingRan 12 0)
-        (cond (not r) (nothingRan (found .rule) (found .index)) (cond x (nothingRan 27 0) (nothingRan 0 0)))))
+        cond (not s) (refusalReport 10 0) (cond (not l) (refusalReport 11 0) (cond (not v) (refusalReport 12 0)
+        (cond (not r) (refusalReport (found .rule) (found .index)) (cond x (refusalReport 27 0) (refusalReport 0 0)))))
 
     within : ltb (operationCount list) again ≡ false
     within = le-ltb (operationCount list) again (omega arith)
 
     by : (s l v r : Bool) → eqb (found .rule) 0 ≡ r → (x : Bool) → eqb (refused s l v r x .ending) 0 ≡ true
-        → refused s l true r (ltb (operationCount list) again) ≡ nothingRan 0 0
+        → refused s l true r (ltb (operationCount list) again) ≡ refusalReport 0 0
     by true true true true k x z = rw within
     by true true true false k x z = absurd (eqb-false (found .rule) 0 k (eqb-true (found .rule) 0 z))
     by true true false r k x z = absurd (let w : _≡_ {A = ℕ} 12 0 = eqb-true 12 0 z in omega (arith, w))
@@ -96,10 +96,10 @@ restarted settings lengths list start again fitting valid e h =
 -- labels that do not fit the memory are refused
 pub unfitting : (settings : Settings) (lengths : Lengths) (list : List ℕ) (start : ℕ) (valid : Bool)
     → eqb (refusal settings lengths list start false valid .ending) 0 ≡ false
-unfolding refusal nothingRan
+unfolding refusal refusalReport
 unfitting settings lengths list start valid = by (settingsInRange settings) (lengthsInRange lengths list) _
   where
-    by : (s l : Bool) (rest : Report) → eqb (cond (not s) (nothingRan 10 0) (cond (not (l && false)) (nothingRan 11 0) rest) .ending) 0 ≡ false
+    by : (s l : Bool) (rest : Report) → eqb (cond (not s) (refusalReport 10 0) (cond (not (l && false)) (refusalReport 11 0) rest) .ending) 0 ≡ false
     by true true rest = refl
     by true false rest = refl
     by false l rest = refl
@@ -107,11 +107,11 @@ unfitting settings lengths list start valid = by (settingsInRange settings) (len
 -- labels of a run that is not refused are 0 or 1
 pub accepted-labels : (settings : Settings) (lengths : Lengths) (list : List ℕ) (start : ℕ) (fitting valid : Bool)
     → eqb (refusal settings lengths list start fitting valid .ending) 0 ≡ true → valid ≡ true
-unfolding refusal nothingRan
+unfolding refusal refusalReport
 accepted-labels settings lengths list start fitting valid = by (settingsInRange settings) (lengthsInRange lengths list && fitting) valid _
   where
     by : (s l v : Bool) (rest : Report)
-        → eqb (cond (not s) (nothingRan 10 0) (cond (not l) (nothingRan 11 0) (cond (not v) (nothingRan 12 0) rest)) .ending) 0 ≡ true → v ≡ true
+        → eqb (cond (not s) (refusalReport 10 0) (cond (not l) (refusalReport 11 0) (cond (not v) (refusalReport 12 0) rest)) .ending) 0 ≡ true → v ≡ true
     by true true true rest z = refl
     by true true false rest z = absurd (let w : _≡_ {A = ℕ} 12 0 = eqb-true 12 0 z in omega (arith, w))
     by true false v rest z = absurd (let w : _≡_ {A = ℕ} 11 0 = eqb-true 11 0 z in omega (arith, w))

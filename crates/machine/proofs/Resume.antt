@@ -10,7 +10,7 @@ use lib.Dec.{eqb}
 use Rattle.operation.specs.declared.layout.Settings.{Settings}
 use Rattle.operation.specs.declared.layout.Lengths.{Lengths}
 use Rattle.operation.specs.declared.report.Report.{Report}
-use Rattle.validation.specs.Verdict.{nothingRan}
+use Rattle.validation.specs.Verdict.{refusalReport}
 use Rattle.machine.specs.Program.{programOf}
 use Rattle.machine.specs.Memory.{Memory, lengthsOf}
 use Rattle.machine.specs.Run.{Position, Ended, run, ended}
@@ -54,9 +54,9 @@ room-left log at e =
 -- ---- the calls
 
 called-running : (settings : Settings) (list : List ℕ) (start budget : ℕ) (log : List ℕ) (labels m : Memory)
-    → called settings list start budget log labels m (nothingRan 0 0)
+    → called settings list start budget log labels m (refusalReport 0 0)
     ≡ outcomeOf log (run (programOf settings list) budget (starting start (length log)) labels m)
-unfolding called nothingRan
+unfolding called refusalReport
 called-running settings list start budget log labels m = refl
 
 module _ (settings : Settings) (list : List ℕ) (start b c : ℕ) (log : List ℕ) (labels m : Memory) where
@@ -66,7 +66,7 @@ module _ (settings : Settings) (list : List ℕ) (start b c : ℕ) (log : List �
   -- a second call that is not refused
   resumed-run : whole b .ending ≡ 2 → whole b .position .room + length (whole b .position .log) ≡ length log
       → Summed (outcomeOf log (whole b))
-      (called settings list (whole b .position .index) c (drop (length (whole b .position .log)) (logAfter (whole b .position .log) log)) (whole b .labels) (whole b .memory) (nothingRan 0 0))
+      (called settings list (whole b .position .index) c (drop (length (whole b .position .log)) (logAfter (whole b .position .log) log)) (whole b .labels) (whole b .memory) (refusalReport 0 0))
       (outcomeOf log (whole (b + c)))
   resumed-run e k =
       rw (
@@ -141,6 +141,6 @@ plain-resumes settings list start b c log m = by (eqb (refused .ending) 0) refl
         let s = resumed-run settings list start b c log unlabelled m e (k .log) in
         rw (k .memory, again)
         (subst (λ (l : Memory). Summed (runs b)
-        (called settings list (r .position .index) c (drop (length (r .position .log)) (logAfter (r .position .log) log)) l (r .memory) (nothingRan 0 0)) (runs (b + c)))
+        (called settings list (r .position .index) c (drop (length (r .position .log)) (logAfter (r .position .log) log)) l (r .memory) (refusalReport 0 0)) (runs (b + c)))
         (no-labels (r .labels) (k .lengths)) s)
     by false t e = absurd (not-stopped (refusal-refuses settings (lengthsOf m) list start true true) e)

@@ -18,8 +18,8 @@ use Rattle.operation.specs.declared.layout.Varnode.{Varnode}
 use Rattle.operation.specs.Layout.{operationCount}
 use Rattle.machine.specs.Program.{Program, bigEndian}
 use Rattle.machine.specs.Memory.{Memory, bytesAt, valueAt, ordered, digitsAt}
-use Rattle.machine.specs.Effect.{Operation, Kind, operationAt, absent, guarded, tested, moves, dropped, digitsOf, valuesOf, computed, bytesWritten, anySecret, secret, labelsWritten}
-use Rattle.machine.specs.Run.{Decision, Position, Ended, Stepped, decided, checked, ended, testedValue, carriedOut, performedAs, performed, stepped, continued, run}
+use Rattle.machine.specs.Effect.{Operation, Kind, operationAt, absent, sinks, tested, moves, dropped, digitsOf, valuesOf, computed, bytesWritten, anySecret, secret, labelsWritten}
+use Rattle.machine.specs.Run.{Decision, Position, Ended, Stepped, decided, checked, ended, testedValue, applyDecision, executeAs, execute, stepped, continued, run}
 use Rattle.machine.proofs.Pointwise.{Each, Spaces, each-length, spaces-space, spaces-at, spaces-written}
 use Rattle.machine.proofs.Cases.{either, either₂}
 
@@ -68,8 +68,8 @@ unfolding anySecret bytesAt absent part tabulate
 absent-bytes labels = refl
 
 -- what is tested is public where all that must be public is
-tested-public : (labels : Memory) (k : Kind) (op : Operation) → secret labels (guarded k op) ≡ false → anySecret (bytesAt labels (tested k op)) ≡ false
-unfolding guarded tested secret
+tested-public : (labels : Memory) (k : Kind) (op : Operation) → secret labels (sinks k op) ≡ false → anySecret (bytesAt labels (tested k op)) ≡ false
+unfolding sinks tested secret
 tested-public labels Kind.load op h = neither (anySecret (bytesAt labels (op .input1))) false h .0
 tested-public labels Kind.store op h = neither (anySecret (bytesAt labels (op .input1))) false h .0
 tested-public labels Kind.cbranch op h = neither (anySecret (bytesAt labels (op .input1))) false h .0
@@ -110,7 +110,7 @@ module _ {labels m n : Memory} (r : Spaces Public labels m n) where
       let e = neither (anySecret (bytesAt labels v)) (secret labels vs) h in
       rw (public-value settings v (e .0), public-values settings vs (e .1))
 
-  public-tested : (settings : Settings) (k : Kind) (op : Operation) → secret labels (guarded k op) ≡ false
+  public-tested : (settings : Settings) (k : Kind) (op : Operation) → secret labels (sinks k op) ≡ false
       → valueAt settings m (tested k op) ≡ valueAt settings n (tested k op)
   public-tested settings k op h = public-value settings (tested k op) (tested-public labels k op h)
 
@@ -139,29 +139,29 @@ module _ (program : Program) {labels m n : Memory} (r : Spaces Public labels m n
   unfolding ended
   ended-view e v at = record { ending = refl; value = refl; position = refl; labels = refl; memory = r }
 
-  carried-view : (k : Kind) (op : Operation) (at : Position) (x : ℕ) (d : Decision)
-      → SameSteps (carriedOut program k op at labels m x d) (carriedOut program k op at labels n x d)
-  unfolding carriedOut
-  carried-view k op at x (Decision.stop e) = halts (ended-view _ 0 at)
-  carried-view k op at x (Decision.exit words d) = halts (ended-view 1 d _)
-  carried-view k op at x (Decision.next words i) = goes (spaces-written r _ (written-view r (program .settings) op _ _))
+  applied-view : (k : Kind) (op : Operation) (at : Position) (x : ℕ) (d : Decision)
+      → SameSteps (applyDecision program k op at labels m x d) (applyDecision program k op at labels n x d)
+  unfolding applyDecision
+  applied-view k op at x (Decision.stop e) = halts (ended-view _ 0 at)
+  applied-view k op at x (Decision.exit words d) = halts (ended-view 1 d _)
+  applied-view k op at x (Decision.next words i) = goes (spaces-written r _ (written-view r (program .settings) op _ _))
 
   -- what follows from the value tested is the same where it is public, and is LEAK where it is not
   decided-view : (t : Bool) (k : Kind) (op : Operation) (at : Position) (i extent room x y : ℕ) → (t ≡ false → x ≡ y)
-      → SameSteps (carriedOut program k op at labels m x (decided t k op i extent room x)) (carriedOut program k op at labels n y (decided t k op i extent room y))
-  unfolding decided carriedOut
+      → SameSteps (applyDecision program k op at labels m x (decided t k op i extent room x)) (applyDecision program k op at labels n y (decided t k op i extent room y))
+  unfolding decided applyDecision
   decided-view true k op at i extent room x y h = halts (ended-view _ 0 at)
-  decided-view false k op at i extent room x y h = rw (h refl) (carried-view k op at y (checked k op i extent room y))
+  decided-view false k op at i extent room x y h = rw (h refl) (applied-view k op at y (checked k op i extent room y))
 
-  performed-view : (k : Kind) (op : Operation) (at : Position) → SameSteps (performedAs program k op at labels m) (performedAs program k op at labels n)
-  unfolding performedAs testedValue
-  performed-view k op at =
+  execute-view : (k : Kind) (op : Operation) (at : Position) → SameSteps (executeAs program k op at labels m) (executeAs program k op at labels n)
+  unfolding executeAs testedValue
+  execute-view k op at =
       rw (each-length (spaces-space r (op .input0 .offset)))
-      (decided-view (secret labels (guarded k op)) k op at _ _ _ _ _ (public-tested r (program .settings) k op))
+      (decided-view (secret labels (sinks k op)) k op at _ _ _ _ _ (public-tested r (program .settings) k op))
 
   stepped-view : (at : Position) → SameSteps (stepped program at labels m) (stepped program at labels n)
-  unfolding stepped performed
-  stepped-view at = either₂ SameSteps (ltb (at .index) (operationCount (program .list))) _ _ _ _ (performed-view _ (operationAt (program .list) (at .index)) at) (halts (ended-view 0 0 at))
+  unfolding stepped execute
+  stepped-view at = either₂ SameSteps (ltb (at .index) (operationCount (program .list))) _ _ _ _ (execute-view _ (operationAt (program .list) (at .index)) at) (halts (ended-view 0 0 at))
 
 -- ---- the run
 

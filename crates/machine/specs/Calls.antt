@@ -8,7 +8,7 @@ use Rattle.operation.specs.declared.layout.Settings.{Settings}
 use Rattle.operation.specs.declared.layout.Lengths.{Lengths}
 use Rattle.operation.specs.declared.report.Report.{Report}
 use Rattle.operation.specs.Layout.{operationCount}
-use Rattle.validation.specs.Verdict.{settingsInRange, lengthsInRange, malformed, nothingRan}
+use Rattle.validation.specs.Verdict.{settingsInRange, lengthsInRange, malformed, refusalReport}
 use Rattle.machine.specs.Program.{programOf}
 use Rattle.machine.specs.Memory.{Memory, lengthsOf}
 use Rattle.machine.specs.Run.{Position, Ended, run}
@@ -51,12 +51,12 @@ labelsInRange labels = allLabels (labels .unique) && allLabels (labels .register
 -- say that no label calls for 11 or for 12.
 unfoldable pub refusal : Settings → Lengths → (list : List ℕ) → (start : ℕ) → (fitting valid : Bool) → Report
 refusal settings lengths list start fitting valid =
-    cond (not (settingsInRange settings)) (nothingRan 10 0)
-    (cond (not (lengthsInRange lengths list && fitting)) (nothingRan 11 0)
-    (cond (not valid) (nothingRan 12 0)
+    cond (not (settingsInRange settings)) (refusalReport 10 0)
+    (cond (not (lengthsInRange lengths list && fitting)) (refusalReport 11 0)
+    (cond (not valid) (refusalReport 12 0)
     (cond (not (eqb (malformed (settings .«address_size») lengths list .rule) 0))
-    (nothingRan (malformed (settings .«address_size») lengths list .rule) (malformed (settings .«address_size») lengths list .index))
-    (cond (ltb (operationCount list) start) (nothingRan 27 0) (nothingRan 0 0)))))
+    (refusalReport (malformed (settings .«address_size») lengths list .rule) (malformed (settings .«address_size») lengths list .index))
+    (cond (ltb (operationCount list) start) (refusalReport 27 0) (refusalReport 0 0)))))
 
 -- ---- the runs
 

@@ -1,6 +1,6 @@
 -- The exact conditions: one operation of a well-formed list told a second time, over opcode numbers, varnodes, labels and values, as
 -- the sentences of paper 01 have it. The definitions of Effect and Run must meet it; a wrong entry in one of their tables does not. Both
--- tellings share memory, arithmetic and the bytes at a pointer (`pointed`). The code is held to these: what it plans, looks at and
+-- tellings share memory, arithmetic and the bytes at a pointer (`pointee`). The code is held to these: what it plans, looks at and
 -- marks is told in their words.
 use Prim.Native.Nat.{ℕ, suc, _+_, _*_, _-_, _%_, _^_, _<_}
 use mathlib.Core.Bool.{Bool, false, cond, not, _&&_, _||_}
@@ -10,14 +10,14 @@ use lib.Dec.{eqb, leb}
 use lib.ListN.{length, getD, replicate}
 use Rattle.word.specs.Word.{bytesOf}
 use Rattle.integer.specs.Operations.{flag}
-use Rattle.arithmetic.specs.Operands.{among}
+use Rattle.arithmetic.specs.Operands.{member}
 use Rattle.arithmetic.specs.Result.{result}
 use Rattle.operation.specs.declared.layout.Varnode.{Varnode}
 use Rattle.operation.specs.Layout.{operationCount}
 use Rattle.validation.specs.Verdict.{verdict}
 use Rattle.machine.specs.Program.{Program, bigEndian}
 use Rattle.machine.specs.Memory.{Memory, OfBytes, lengthsOf, spaceOf, bytesAt, written, valueAt}
-use Rattle.machine.specs.Effect.{Operation, operationAt, pointed, anySecret}
+use Rattle.machine.specs.Effect.{Operation, operationAt, pointee, anySecret}
 use Rattle.machine.specs.Run.{Position, Stepped, advanced, ended, continued, run}
 
 -- A byte of a varnode is secret. Constants are public.
@@ -28,30 +28,30 @@ hasSecret labels v = cond (eqb (v .space) 1) false (anySecret (bytesAt labels v)
 -- INT_REM, INT_SDIV, INT_SREM.
 unfoldable pub leaks : (labels : Memory) → Operation → Bool
 leaks labels op =
-    (among (op .opcode) (2 ∷ 3 ∷ []) && hasSecret labels (op .input1))
+    (member (op .opcode) (2 ∷ 3 ∷ []) && hasSecret labels (op .input1))
     || (eqb (op .opcode) 5 && hasSecret labels (op .input1))
-    || (among (op .opcode) (6 ∷ 8 ∷ 9 ∷ []) && hasSecret labels (op .input0))
-    || (among (op .opcode) (35 ∷ 36 ∷ 37 ∷ 38 ∷ []) && hasSecret labels (op .input1))
+    || (member (op .opcode) (6 ∷ 8 ∷ 9 ∷ []) && hasSecret labels (op .input0))
+    || (member (op .opcode) (35 ∷ 36 ∷ 37 ∷ 38 ∷ []) && hasSecret labels (op .input1))
 
 -- ---- by the value b of input1: the pointer of LOAD 2 and STORE 3, the condition of CBRANCH 5, the divisor
 
 -- pointer + size beyond the space
-unfoldable pub pastItsSpace : Memory → Varnode → Bool
-pastItsSpace m v = not (leb (v .offset + v .size) (length (spaceOf m (v .space))))
+unfoldable pub exceedsSpace : Memory → Varnode → Bool
+exceedsSpace m v = not (leb (v .offset + v .size) (length (spaceOf m (v .space))))
 
 -- BOUNDS, pointer + size beyond the space, summed without wrapping.
 unfoldable pub outOfBounds : Memory → Operation → (b : ℕ) → Bool
 outOfBounds m op b =
-    (eqb (op .opcode) 2 && pastItsSpace m (pointed op b (op .output .size)))
-    || (eqb (op .opcode) 3 && pastItsSpace m (pointed op b (op .input2 .size)))
+    (eqb (op .opcode) 2 && exceedsSpace m (pointee op b (op .output .size)))
+    || (eqb (op .opcode) 3 && exceedsSpace m (pointee op b (op .input2 .size)))
 
 -- ZERO divisor.
 unfoldable pub dividesByZero : Operation → (b : ℕ) → Bool
-dividesByZero op b = among (op .opcode) (35 ∷ 36 ∷ 37 ∷ 38 ∷ []) && eqb b 0
+dividesByZero op b = member (op .opcode) (35 ∷ 36 ∷ 37 ∷ 38 ∷ []) && eqb b 0
 
 -- Each LOAD, STORE and CBRANCH executed writes one 64-bit log word:
 unfoldable pub writesLog : Operation → Bool
-writesLog op = among (op .opcode) (2 ∷ 3 ∷ 5 ∷ [])
+writesLog op = member (op .opcode) (2 ∷ 3 ∷ 5 ∷ [])
 
 -- In CBRANCH any non-zero byte is true.
 unfoldable pub taken : Operation → (b : ℕ) → Bool
@@ -67,15 +67,15 @@ logWordOf op i b = i * 2 ^ 32 + lowPart op b
 
 -- BRANCH, CBRANCH taken or CALL:
 unfoldable pub branchTaken : Operation → (b : ℕ) → Bool
-branchTaken op b = among (op .opcode) (4 ∷ 7 ∷ []) || taken op b
+branchTaken op b = member (op .opcode) (4 ∷ 7 ∷ []) || taken op b
 
 -- to space 4 ends the run with that offset. BRANCHIND, CALLIND and RETURN end it with the value of input0.
 unfoldable pub exits : Operation → (b : ℕ) → Bool
-exits op b = (branchTaken op b && eqb (op .input0 .space) 4) || among (op .opcode) (6 ∷ 8 ∷ 9 ∷ [])
+exits op b = (branchTaken op b && eqb (op .input0 .space) 4) || member (op .opcode) (6 ∷ 8 ∷ 9 ∷ [])
 
 -- The value of EXIT: that offset, or the value a of input0.
 unfoldable pub destination : Operation → (a : ℕ) → ℕ
-destination op a = cond (among (op .opcode) (6 ∷ 8 ∷ 9 ∷ [])) a (op .input0 .offset)
+destination op a = cond (member (op .opcode) (6 ∷ 8 ∷ 9 ∷ [])) a (op .input0 .offset)
 
 -- To space 1 it goes on at the index plus the signed offset, which is their sum modulo 2^64; any other operation goes on at the next.
 unfoldable pub nextIndex : Operation → (i b : ℕ) → ℕ
@@ -83,7 +83,7 @@ nextIndex op i b = cond (branchTaken op b && eqb (op .input0 .space) 1) ((i + op
 
 -- What is written to: the target bytes of STORE, else the output; branches have none.
 unfoldable pub destinationBytes : Operation → (b : ℕ) → Varnode
-destinationBytes op b = cond (eqb (op .opcode) 3) (pointed op b (op .input2 .size)) (op .output)
+destinationBytes op b = cond (eqb (op .opcode) 3) (pointee op b (op .input2 .size)) (op .output)
 
 -- All bytes of an output become secret if any byte of any varnode read, or any byte loaded, is secret; else public. STORE makes all its
 -- target bytes secret if any byte of input2 is secret, else public.
@@ -91,7 +91,7 @@ unfoldable pub becomesSecret : (labels : Memory) → Operation → (b : ℕ) →
 becomesSecret labels op b =
     cond (eqb (op .opcode) 3) (hasSecret labels (op .input2))
     (hasSecret labels (op .input0) || hasSecret labels (op .input1)
-    || (eqb (op .opcode) 2 && hasSecret labels (pointed op b (op .output .size))))
+    || (eqb (op .opcode) 2 && hasSecret labels (pointee op b (op .output .size))))
 
 -- ---- the value written, by the values a of input0 and b of input1
 
@@ -102,11 +102,11 @@ valueComputed op a b = cond (eqb (op .opcode) 1) a (result (op .opcode) (op .out
 -- The bytes loaded, or STORE's input2.
 unfoldable pub valueMoved : Program → Memory → Operation → (b : ℕ) → ℕ
 valueMoved program m op b =
-    valueAt (program .settings) m (cond (eqb (op .opcode) 2) (pointed op b (op .output .size)) (op .input2))
+    valueAt (program .settings) m (cond (eqb (op .opcode) 2) (pointee op b (op .output .size)) (op .input2))
 
 -- The value written: moved by LOAD and STORE, else computed.
 unfoldable pub valueWritten : Program → Memory → Operation → (a b : ℕ) → ℕ
-valueWritten program m op a b = cond (among (op .opcode) (2 ∷ 3 ∷ [])) (valueMoved program m op b) (valueComputed op a b)
+valueWritten program m op a b = cond (member (op .opcode) (2 ∷ 3 ∷ [])) (valueMoved program m op b) (valueComputed op a b)
 
 -- An operation executed: one more counted, its log word written.
 unfoldable pub positionAfter : Operation → (b : ℕ) → Position → (index : ℕ) → Position
@@ -114,8 +114,8 @@ positionAfter op b at i = advanced at i (cond (writesLog op) (logWordOf op (at .
 
 -- After LEAK, in order, with the values a of input0 and b of input1: BOUNDS; ZERO; LOG; then it is executed, and exits or goes on. `marked`
 -- is the labels if it goes on.
-unfoldable pub toldWith : Program → Operation → (a b : ℕ) → Position → (labels marked memory : Memory) → Stepped
-toldWith program op a b at labels marked m =
+unfoldable pub exactStepWith : Program → Operation → (a b : ℕ) → Position → (labels marked memory : Memory) → Stepped
+exactStepWith program op a b at labels marked m =
     cond (outOfBounds m op b) (Stepped.halted (ended 32 0 at labels m))
     (cond (dividesByZero op b) (Stepped.halted (ended 33 0 at labels m))
     (cond (writesLog op && eqb (at .room) 0) (Stepped.halted (ended 34 0 at labels m))
@@ -128,18 +128,18 @@ unfoldable pub labelsAfter : (labels : Memory) → Operation → (b : ℕ) → M
 labelsAfter labels op b = written labels (destinationBytes op b) (replicate (destinationBytes op b .size) (flag (becomesSecret labels op b)))
 
 -- At each operation, in order: LEAK; and the rest.
-unfoldable pub told : Program → Operation → Position → (labels memory : Memory) → Stepped
-told program op at labels m =
+unfoldable pub exactStep : Program → Operation → Position → (labels memory : Memory) → Stepped
+exactStep program op at labels m =
     let a : ℕ = valueAt (program .settings) m (op .input0) in
     let b : ℕ = valueAt (program .settings) m (op .input1) in
-    cond (leaks labels op) (Stepped.halted (ended 31 0 at labels m)) (toldWith program op a b at labels (labelsAfter labels op b) m)
+    cond (leaks labels op) (Stepped.halted (ended 31 0 at labels m)) (exactStepWith program op a b at labels (labelsAfter labels op b) m)
 
 -- At n, END; count equals budget, BUDGET; `budget` is what is left of it.
-unfoldable pub toldWithin : Program → (budget : ℕ) → Position → (labels memory : Memory) → Stepped
-toldWithin program budget at labels m =
+unfoldable pub exactStepWithin : Program → (budget : ℕ) → Position → (labels memory : Memory) → Stepped
+exactStepWithin program budget at labels m =
     cond (leb (operationCount (program .list)) (at .index)) (Stepped.halted (ended 0 0 at labels m))
     (cond (eqb budget 0) (Stepped.halted (ended 2 0 at labels m))
-    (told program (operationAt (program .list) (at .index)) at labels m))
+    (exactStep program (operationAt (program .list) (at .index)) at labels m))
 
 -- Every entry is a 64-bit word.
 abbrev pub Words : List ℕ → Type 0
@@ -149,4 +149,4 @@ Words list = (k : ℕ) → getD list k 0 < 2 ^ 64
 abbrev pub ExactConditions : Type 0
 ExactConditions = (program : Program) (budget : ℕ) (at : Position) (labels m : Memory)
     → Words (program .list) → OfBytes m → verdict (program .settings) (lengthsOf m) (program .list) .ending ≡ 0
-    → run program budget at labels m ≡ continued (run program (budget - 1)) (toldWithin program budget at labels m)
+    → run program budget at labels m ≡ continued (run program (budget - 1)) (exactStepWithin program budget at labels m)

@@ -6,7 +6,7 @@ use lib.Dec.{eqb}
 use lib.ListN.{getD, replicate}
 use Rattle.word.specs.Word.{part, bytesOf}
 use Rattle.integer.specs.Operations.{flag}
-use Rattle.arithmetic.specs.Operands.{among, divides}
+use Rattle.arithmetic.specs.Operands.{member, divides}
 use Rattle.arithmetic.specs.Result.{result}
 use Rattle.operation.specs.declared.layout.Settings.{Settings}
 use Rattle.operation.specs.declared.layout.Varnode.{Varnode}
@@ -62,21 +62,21 @@ kindOf opcode =
 -- ---- what must be public: 'LEAK: a secret byte in ..'
 
 -- The varnodes that must be public.
-unfoldable pub guarded : Kind → Operation → List Varnode
+unfoldable pub sinks : Kind → Operation → List Varnode
 -- the pointer of LOAD or STORE,
-guarded load op = op .input1 ∷ []
-guarded store op = op .input1 ∷ []
+sinks load op = op .input1 ∷ []
+sinks store op = op .input1 ∷ []
 -- the condition,
-guarded cbranch op = op .input1 ∷ []
+sinks cbranch op = op .input1 ∷ []
 -- input0 of BRANCHIND, CALLIND or RETURN,
-guarded jump op = op .input0 ∷ []
+sinks jump op = op .input0 ∷ []
 -- or input1 of INT_DIV, INT_REM, INT_SDIV, INT_SREM.
-guarded divide op = op .input1 ∷ []
-guarded copy op = []
-guarded branch op = []
-guarded piece op = []
-guarded subpiece op = []
-guarded compute op = []
+sinks divide op = op .input1 ∷ []
+sinks copy op = []
+sinks branch op = []
+sinks piece op = []
+sinks subpiece op = []
+sinks compute op = []
 
 -- The varnode whose value decides what happens: the pointer, the condition, the destination or the divisor. It is among those that must be
 -- public; where nothing is decided it is absent.
@@ -95,13 +95,13 @@ tested compute op = absent
 -- ---- what is read for the value written, and where that value goes; `pointer` is the value of LOAD's or STORE's input1
 
 -- The bytes at a pointer, which LOAD loads or STORE stores to, in the space that input0 names.
-unfoldable pub pointed : Operation → (pointer size : ℕ) → Varnode
-pointed op pointer size = record { space = op .input0 .offset; offset = pointer; size = size }
+unfoldable pub pointee : Operation → (pointer size : ℕ) → Varnode
+pointee op pointer size = record { space = op .input0 .offset; offset = pointer; size = size }
 
 -- Least significant first: input0 of PIECE is its most significant part.
 unfoldable pub sources : Kind → Operation → (pointer : ℕ) → List Varnode
 sources copy op pointer = op .input0 ∷ []
-sources load op pointer = pointed op pointer (op .output .size) ∷ []
+sources load op pointer = pointee op pointer (op .output .size) ∷ []
 sources store op pointer = op .input2 ∷ []
 sources branch op pointer = []
 sources cbranch op pointer = []
@@ -115,7 +115,7 @@ sources compute op pointer = op .input0 ∷ op .input1 ∷ []
 unfoldable pub target : Kind → Operation → (pointer : ℕ) → Varnode
 target copy op pointer = op .output
 target load op pointer = op .output
-target store op pointer = pointed op pointer (op .input2 .size)
+target store op pointer = pointee op pointer (op .input2 .size)
 target branch op pointer = absent
 target cbranch op pointer = absent
 target jump op pointer = absent
@@ -128,7 +128,7 @@ target compute op pointer = op .output
 
 -- COPY, LOAD, STORE, PIECE, SUBPIECE, INT_ZEXT: the bytes written are bytes read, moved by significance; else those of a number.
 unfoldable pub moves : Operation → Bool
-moves op = among (op .opcode) (1 ∷ 2 ∷ 3 ∷ 10 ∷ 11 ∷ 19 ∷ [])
+moves op = member (op .opcode) (1 ∷ 2 ∷ 3 ∷ 10 ∷ 11 ∷ 19 ∷ [])
 
 -- 11 SUBPIECE drops input1 low bytes.
 unfoldable pub dropped : Operation → ℕ

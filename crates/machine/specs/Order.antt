@@ -8,22 +8,22 @@ use Rattle.operation.specs.declared.layout.Settings.{Settings}
 use Rattle.operation.specs.declared.layout.Lengths.{Lengths}
 use Rattle.operation.specs.Layout.{operationCount}
 use Rattle.validation.specs.declared.Malformed.{Malformed}
-use Rattle.validation.specs.Verdict.{settingsInRange, lengthsInRange, malformed, nothingRan}
+use Rattle.validation.specs.Verdict.{settingsInRange, lengthsInRange, malformed, refusalReport}
 use Rattle.machine.specs.Calls.{refusal}
 
 -- `fitting` and `valid` say that no label calls for 11 or for 12; `found` is the first malformed operation.
 pub record InOrder (settings : Settings) (lengths : Lengths) (list : List ℕ) (start : ℕ) (fitting valid : Bool) (found : Malformed) : Type 0 where
-  pub settingRefused : settingsInRange settings ≡ false → refusal settings lengths list start fitting valid ≡ nothingRan 10 0
+  pub settingRefused : settingsInRange settings ≡ false → refusal settings lengths list start fitting valid ≡ refusalReport 10 0
   pub lengthRefused : settingsInRange settings ≡ true → (lengthsInRange lengths list && fitting) ≡ false
-      → refusal settings lengths list start fitting valid ≡ nothingRan 11 0
+      → refusal settings lengths list start fitting valid ≡ refusalReport 11 0
   pub labelRefused : settingsInRange settings ≡ true → (lengthsInRange lengths list && fitting) ≡ true → valid ≡ false
-      → refusal settings lengths list start fitting valid ≡ nothingRan 12 0
+      → refusal settings lengths list start fitting valid ≡ refusalReport 12 0
   pub listRefused : settingsInRange settings ≡ true → (lengthsInRange lengths list && fitting) ≡ true → valid ≡ true → (found .rule ≡ 0 → ⊥)
-      → refusal settings lengths list start fitting valid ≡ nothingRan (found .rule) (found .index)
+      → refusal settings lengths list start fitting valid ≡ refusalReport (found .rule) (found .index)
   pub startRefused : settingsInRange settings ≡ true → (lengthsInRange lengths list && fitting) ≡ true → valid ≡ true → found .rule ≡ 0
-      → operationCount list < start → refusal settings lengths list start fitting valid ≡ nothingRan 27 0
+      → operationCount list < start → refusal settings lengths list start fitting valid ≡ refusalReport 27 0
   pub nothingRefused : settingsInRange settings ≡ true → (lengthsInRange lengths list && fitting) ≡ true → valid ≡ true → found .rule ≡ 0
-      → start ≤ operationCount list → refusal settings lengths list start fitting valid ≡ nothingRan 0 0
+      → start ≤ operationCount list → refusal settings lengths list start fitting valid ≡ refusalReport 0 0
 
 abbrev pub RefusalsInOrder : Type 0
 RefusalsInOrder = (settings : Settings) (lengths : Lengths) (list : List ℕ) (start : ℕ) (fitting valid : Bool)

@@ -10,7 +10,7 @@ use Rattle.operation.specs.Layout.{operationCount}
 use Rattle.operation.specs.Rules.{relativeTarget}
 use Rattle.machine.specs.Program.{Program}
 use Rattle.machine.specs.Memory.{Memory, spaceOf, valueAt, written}
-use Rattle.machine.specs.Effect.{Operation, operationAt, Kind, kindOf, guarded, tested, sources, target, bytesWritten, secret, labelsWritten}
+use Rattle.machine.specs.Effect.{Operation, operationAt, Kind, kindOf, sinks, tested, sources, target, bytesWritten, secret, labelsWritten}
 
 -- ---- what is decided before anything is written
 
@@ -109,23 +109,23 @@ testedValue program k op m = valueAt (program .settings) m (tested k op)
 
 -- A stopped operation writes nothing and isn't counted; an exiting operation is counted. All is read from the memory and the labels
 -- before the operation. `value` is that of the varnode tested.
-unfoldable pub carriedOut : Program → Kind → Operation → Position → (labels memory : Memory) → (value : ℕ) → Decision → Stepped
-carriedOut program k op at labels m value (stop e) = halted (ended (endingOf e) 0 at labels m)
-carriedOut program k op at labels m value (exit words d) = halted (ended 1 d (advanced at (at .index) words) labels m)
-carriedOut program k op at labels m value (next words i) =
+unfoldable pub applyDecision : Program → Kind → Operation → Position → (labels memory : Memory) → (value : ℕ) → Decision → Stepped
+applyDecision program k op at labels m value (stop e) = halted (ended (endingOf e) 0 at labels m)
+applyDecision program k op at labels m value (exit words d) = halted (ended 1 d (advanced at (at .index) words) labels m)
+applyDecision program k op at labels m value (next words i) =
     going (advanced at i words)
     (written labels (target k op value) (labelsWritten (target k op value .size) (sources k op value) labels))
     (written m (target k op value) (bytesWritten (program .settings) op (target k op value .size) (sources k op value) m))
 
 -- One operation of a kind: what must be public is looked at first.
-unfoldable pub performedAs : Program → Kind → Operation → Position → (labels memory : Memory) → Stepped
-performedAs program k op at labels m =
-    carriedOut program k op at labels m (testedValue program k op m)
-    (decided (secret labels (guarded k op)) k op (at .index) (length (spaceOf m (op .input0 .offset))) (at .room) (testedValue program k op m))
+unfoldable pub executeAs : Program → Kind → Operation → Position → (labels memory : Memory) → Stepped
+executeAs program k op at labels m =
+    applyDecision program k op at labels m (testedValue program k op m)
+    (decided (secret labels (sinks k op)) k op (at .index) (length (spaceOf m (op .input0 .offset))) (at .room) (testedValue program k op m))
 
 -- One operation.
-unfoldable pub performed : Program → Operation → Position → (labels memory : Memory) → Stepped
-performed program op at labels m = performedAs program (kindOf (op .opcode)) op at labels m
+unfoldable pub execute : Program → Operation → Position → (labels memory : Memory) → Stepped
+execute program op at labels m = executeAs program (kindOf (op .opcode)) op at labels m
 
 -- ---- the run
 
@@ -133,7 +133,7 @@ performed program op at labels m = performedAs program (kindOf (op .opcode)) op 
 unfoldable pub stepped : Program → Position → (labels memory : Memory) → Stepped
 stepped program at labels m =
     cond (ltb (at .index) (operationCount (program .list)))
-    (performed program (operationAt (program .list) (at .index)) at labels m)
+    (execute program (operationAt (program .list) (at .index)) at labels m)
     (halted (ended 0 0 at labels m))
 
 -- What a run does after one operation.

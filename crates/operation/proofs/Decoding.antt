@@ -1,4 +1,4 @@
--- Laws of decoding. Assumes nothing.
+-- Laws of decoding.
 use Prim.Native.Nat.{ℕ}
 use mathlib.Core.Bool.{Bool, true, false, cond}
 use mathlib.Core.Path.{_≡_, refl, ap, _∙_}

@@ -1,4 +1,4 @@
--- Laws of the table of shapes. Assumes nothing.
+-- Laws of the table of shapes.
 use Prim.Native.Nat.{ℕ, zero, suc, _≤_, _<_, min}
 use mathlib.Core.Bool.{Bool, true, false, cond, _&&_}
 use mathlib.Core.List.{List, [], _∷_}
@@ -9,7 +9,7 @@ use lib.Dec.{lit<, eqb, leb, ltb}
 use Rattle.word.specs.Sum.{tabulate, digit}
 use Rattle.word.proofs.Sums.{tabulate-at}
 use Rattle.integer.specs.Operations.{flag}
-use Rattle.arithmetic.specs.Operands.{among, unary}
+use Rattle.arithmetic.specs.Operands.{member, unary}
 use Rattle.arithmetic.proofs.Agreement.{flag-one, set-tells}
 use Rattle.integer.proofs.Booleans.{both}
 use Rattle.operation.specs.Shapes.{shapes, rowOf, outputs, inputs, hasPlace}
@@ -84,7 +84,7 @@ no-place k place h = rw (ne-eqb place 0 (λ e. omega arith)) (lt-leb place (inpu
 
 -- the operations without an input1 are those that take one input
 pub unary-shape : (n : ℕ) → 10 ≤ n → n ≤ 42 → unary n ≡ eqb (inputs n) 1
-unfolding tabulate flag unary among inputs rowOf shapes
+unfolding tabulate flag unary member inputs rowOf shapes
 unary-shape n low high =
     let e : flag (unary n) ≡ cond (leb 10 n) (flag (eqb (inputs n) 1)) 0 =
     sym (tabulate-at 43 (λ k. flag (unary k)) n (omega arith)) ∙ tabulate-at 43 (λ k. cond (leb 10 k) (flag (eqb (inputs k) 1)) 0) n (omega arith) in

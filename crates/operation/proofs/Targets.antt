@@ -1,4 +1,4 @@
--- A relative branch's target, told without the signed sum. Assumes nothing.
+-- A relative branch's target, told without the signed sum.
 use Prim.Native.Nat.{ℕ, suc, _+_, _-_, _%_, _^_, _≤_, _<_}
 use native.Mathlib.Nat.{mod-eq-of-lt, mod-add-mod}
 use mathlib.Core.Bool.{Bool, true, false, _||_}

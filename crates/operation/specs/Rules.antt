@@ -6,7 +6,7 @@ use lib.Dec.{eqb, leb, ltb}
 use lib.IntN.{ℤ, pos, _+ℤ_}
 use lib.Signed.{ltZ}
 use Rattle.integer.specs.Integers.{signed}
-use Rattle.arithmetic.specs.Operands.{among, sizesAgree}
+use Rattle.arithmetic.specs.Operands.{member, sizesAgree}
 use Rattle.operation.specs.declared.layout.Varnode.{Varnode}
 use Rattle.operation.specs.declared.layout.Lengths.{Lengths}
 use Rattle.operation.specs.Layout.{lastOpcode, headByte, opcodeAt, descriptorAt, offsetAt}
@@ -39,15 +39,15 @@ breaksShapeAt list i place = breaksShape (hasPlace (opcodeAt list i) place) (des
 
 -- LOAD 2, STORE 3: input0 names a space, input1 is the pointer.
 unfoldable pub accesses : (opcode : ℕ) → Bool
-accesses opcode = among opcode (2 ∷ 3 ∷ [])
+accesses opcode = member opcode (2 ∷ 3 ∷ [])
 
 -- BRANCH 4, CBRANCH 5, CALL 7: input0 is the destination.
 unfoldable pub branches : (opcode : ℕ) → Bool
-branches opcode = among opcode (4 ∷ 5 ∷ 7 ∷ [])
+branches opcode = member opcode (4 ∷ 5 ∷ 7 ∷ [])
 
 -- BRANCHIND 6, CALLIND 8, RETURN 9: the value of input0 is the destination.
 unfoldable pub jumps : (opcode : ℕ) → Bool
-jumps opcode = among opcode (6 ∷ 8 ∷ 9 ∷ [])
+jumps opcode = member opcode (6 ∷ 8 ∷ 9 ∷ [])
 
 -- ---- 23 PLACE: output in space 1; input0 of LOAD or STORE not a constant 2, 3 or 4; input0 of BRANCH, CBRANCH or CALL not in
 -- space 1 or 4; input1 of SUBPIECE not constant.

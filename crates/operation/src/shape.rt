@@ -1,7 +1,7 @@
 // Which varnodes each operation has.
 ghost use mathlib.Core.Path.{_≡_};
 ghost use Rattle.operation.specs.Shapes.{hasPlace};
-use arithmetic::operands::member;
+use arithmetic::operands::has_bit;
 
 // The operations that have a varnode at a place, as sets of opcodes.
 const WITH_OUTPUT: u64 = 0b111_11111111_11111111_11111111_11111100_00000110;
@@ -17,10 +17,10 @@ pub fn has_place(opcode: u64, place: u8) -> bool
     ensures { λ r. ⌜ r ≡ hasPlace opcode place ⌝ }
 {
     match place {
-        0 => member(WITH_OUTPUT, opcode),
-        1 => member(WITH_INPUT0, opcode),
-        2 => member(WITH_INPUT1, opcode),
-        3 => member(WITH_INPUT2, opcode),
+        0 => has_bit(WITH_OUTPUT, opcode),
+        1 => has_bit(WITH_INPUT0, opcode),
+        2 => has_bit(WITH_INPUT1, opcode),
+        3 => has_bit(WITH_INPUT2, opcode),
         _ => false,
     }
 }

@@ -1,5 +1,5 @@
 -- Laws of text put into a buffer: no text, one character, a text behind a text, one text more, and how far it reaches.
--- Assumes nothing.
+--
 use Prim.Native.Nat.{ℕ, suc, _+_, _≤_, _<_}
 use mathlib.Core.Path.{_≡_, refl, sym, ap, _∙_}
 use mathlib.Core.List.{List, [], _∷_, _++_, append-assoc, append-nil}

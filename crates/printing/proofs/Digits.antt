@@ -1,4 +1,4 @@
--- Laws of the digits of numbers: one digit more, and how many are enough. Assumes nothing.
+-- Laws of the digits of numbers: one digit more, and how many are enough.
 use Prim.Native.Nat.{ℕ, zero, suc, _-_, _/_, _%_, _^_, _≤_, _<_}
 use mathlib.Core.Path.{_≡_}
 use mathlib.Core.List.{[], _∷_, _++_}

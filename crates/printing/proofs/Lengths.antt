@@ -1,4 +1,4 @@
--- How long the texts are, and how far they reach in a buffer. Assumes nothing.
+-- How long the texts are, and how far they reach in a buffer.
 use Prim.Native.Nat.{ℕ, zero, suc, _+_, _*_, _/_, _≤_}
 use mathlib.Core.Path.{_≡_, refl}
 use mathlib.Core.Bool.{Bool, true, false, cond}

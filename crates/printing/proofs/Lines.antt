@@ -1,4 +1,4 @@
--- The part of a space that the code takes for a line is the line's bytes. Assumes nothing.
+-- The part of a space that the code takes for a line is the line's bytes.
 use Prim.Native.Nat.{ℕ, _+_, _-_, _*_, _≤_, _<_, min}
 use mathlib.Core.Path.{_≡_, refl, sym, _∙_}
 use mathlib.Core.Bool.{Bool, true, false}

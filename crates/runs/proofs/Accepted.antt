@@ -14,20 +14,20 @@ use Rattle.operation.specs.declared.layout.Lengths.{Lengths}
 use Rattle.operation.specs.declared.report.Report.{Report}
 use Rattle.operation.specs.Layout.{operationCount}
 use Rattle.validation.specs.declared.Malformed.{Malformed}
-use Rattle.validation.specs.Verdict.{settingsInRange, lengthsInRange, malformed, nothingRan, verdict}
+use Rattle.validation.specs.Verdict.{settingsInRange, lengthsInRange, malformed, refusalReport, verdict}
 use Rattle.validation.proofs.WellFormed.{verdict-zero}
 use Rattle.machine.specs.Program.{programOf}
 use Rattle.machine.specs.Memory.{Memory, spaces, lengthsOf}
 use Rattle.machine.specs.Run.{run}
 use Rattle.machine.specs.Calls.{Outcome, unlabelled, plainOutcome, labelledOutcome, sameLengths, refusal, starting, outcomeOf, called}
 use Rattle.machine.proofs.Resume.{no-labels}
-use Rattle.plan.specs.Valid.{Valid}
-use Rattle.execution.specs.Loops.{position}
-use Rattle.labelled.specs.Turns.{Fitting}
+use Rattle.run_plan.specs.Valid.{Valid}
+use Rattle.run_execution.specs.Loops.{position}
+use Rattle.run_labelled.specs.Turns.{Fitting}
 
 -- a refusal that was not called for, and the refusals after it
-not-refused : (t : Bool) (n i : ℕ) (rest : Report) → (t ≡ true → 0 < n) → cond t (nothingRan n i) rest .ending ≡ 0 → (t ≡ false) × (rest .ending ≡ 0)
-unfolding nothingRan
+not-refused : (t : Bool) (n i : ℕ) (rest : Report) → (t ≡ true → 0 < n) → cond t (refusalReport n i) rest .ending ≡ 0 → (t ≡ false) × (rest .ending ≡ 0)
+unfolding refusalReport
 not-refused true n i rest h e = absurd (let l : 0 < n = h refl in let z : ⊥ = omega (arith, l, e) in z)
 not-refused false n i rest h e = (refl, e)
 
@@ -35,13 +35,13 @@ not-refused false n i rest h e = (refl, e)
 pub accepted : (settings : Settings) (lengths : Lengths) (list : List ℕ) (start : ℕ) (fitting valid : Bool) (found : Report)
     → found ≡ refusal settings lengths list start fitting valid → found .ending ≡ 0
     → Valid lengths list × (start ≤ operationCount list) × (fitting ≡ true) × (valid ≡ true)
-unfolding refusal verdict nothingRan
+unfolding refusal verdict refusalReport
 accepted settings lengths list start fitting valid found f e =
     let t1 = not-refused (not (settingsInRange settings)) 10 0 _ (λ h. omega arith) (rw f at e) in
     let t2 = not-refused (not (lengthsInRange lengths list && fitting)) 11 0 _ (λ h. omega arith) (t1 .1) in
     let t3 = not-refused (not valid) 12 0 _ (λ h. omega arith) (t2 .1) in
     let t4 = not-refused (not (eqb (first .rule) 0)) (first .rule) (first .index) _ nonzero (t3 .1) in
-    let t5 = not-refused (ltb (operationCount list) start) 27 0 (nothingRan 0 0) (λ h. omega arith) (t4 .1) in
+    let t5 = not-refused (ltb (operationCount list) start) 27 0 (refusalReport 0 0) (λ h. omega arith) (t4 .1) in
     let l = both (lengthsInRange lengths list) fitting (not-false _ (t2 .0)) in
     let v = verdict-zero settings lengths list (no-ending (not-false _ (t1 .0)) (l .0) (eqb-true (first .rule) 0 (not-false _ (t4 .0)))) in (
       record { addressSize = settings .«address_size»; inRange = l .0; operations = v .2 },

@@ -1,11 +1,11 @@
 // The runs with their refusals: crates/interpreter has them as public calls.
 ghost use Rattle.machine.specs.Memory.{spaces};
 ghost use Rattle.runs.specs.Promises.{RunPromise, LabelledRunPromise};
-use labelled::run_any;
 use operation::layout::Settings;
 use operation::report::Report;
-use refusal::labelled_refusal;
-use refusal::plain_refusal;
+use run_labelled::run_any;
+use run_refusal::labelled_refusal;
+use run_refusal::plain_refusal;
 
 // A run of at most `budget` operations, from operation `start`, without labels: paper 01's plain run.
 pub fn run(

@@ -1,4 +1,4 @@
--- What a showable place satisfies, and how long the shown part is. Assumes nothing.
+-- What a showable place satisfies, and how long the shown part is.
 use Prim.Native.Nat.{ℕ, _+_, _-_, _≤_}
 use mathlib.Core.Bool.{true, _&&_}
 use mathlib.Core.Path.{_≡_}

@@ -1,4 +1,4 @@
--- What the walk over a list finds: laws of the rules together, and of the first malformed operation. Assumes nothing.
+-- What the walk over a list finds: laws of the rules together, and of the first malformed operation.
 use Prim.Native.Nat.{ℕ, zero, suc, _+_, _-_, _/_, _%_, _≤_, _<_}
 use mathlib.Core.Bool.{Bool, true, false, cond, not, _&&_, _||_, xor}
 use mathlib.Core.List.{List}

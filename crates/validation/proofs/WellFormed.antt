@@ -1,4 +1,4 @@
--- A list whose verdict is 0 has every operation well-formed. Assumes nothing.
+-- A list whose verdict is 0 has every operation well-formed.
 use Prim.Native.Nat.{ℕ, zero, suc, _+_, _^_, _≤_, _<_}
 use mathlib.Core.Bool.{Bool, true, false, cond, not, _&&_, _||_}
 use mathlib.Core.List.{List}
@@ -14,7 +14,7 @@ use Rattle.operation.specs.declared.layout.Lengths.{Lengths}
 use Rattle.operation.specs.Layout.{mostInputs, operationCount, headByte, opcodeAt, descriptorAt, offsetAt, describedBy, varnodeAt}
 use Rattle.operation.specs.Shapes.{hasPlace}
 use Rattle.operation.specs.Rules.{branches, breaksHead, breaksShapeAt, describesVarnode, breaksPlace, lengthOf, beyond, breaksRange, breaksSize, relativeTarget, targetOutside, breaksTarget}
-use Rattle.validation.specs.Verdict.{settingsInRange, lengthsInRange, firstMalformed, nothingRan, malformed, verdict, anyPlace, lowestRule, sizeOrTarget}
+use Rattle.validation.specs.Verdict.{settingsInRange, lengthsInRange, firstMalformed, refusalReport, malformed, verdict, anyPlace, lowestRule, sizeOrTarget}
 use Rattle.validation.specs.WellFormed.{WellFormed, VerdictZero}
 use Rattle.validation.proofs.Walk.{none-at, passed-shape, described}
 
@@ -124,7 +124,7 @@ no-rule-broken a lengths list i e =
     }
 
 pub verdict-zero : VerdictZero
-unfolding verdict nothingRan malformed
+unfolding verdict refusalReport malformed
 verdict-zero settings lengths list e = by (settingsInRange settings) refl (lengthsInRange lengths list) refl
   where
     by : (s : Bool) → settingsInRange settings ≡ s → (l : Bool) → lengthsInRange lengths list ≡ l

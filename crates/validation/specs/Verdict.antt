@@ -60,14 +60,14 @@ firstMalformed rule zero i = record { rule = 0; index = i }
 firstMalformed rule (suc m) i = cond (eqb (rule i) 0) (firstMalformed rule m (i + 1)) (record { rule = rule i; index = i })
 
 -- A report of a call in which nothing ran.
-unfoldable pub nothingRan : (ending index : ℕ) → Report
-nothingRan ending index = record { ending = ending; index = index; executed = 0; logged = 0; value = 0 }
+unfoldable pub refusalReport : (ending index : ℕ) → Report
+refusalReport ending index = record { ending = ending; index = index; executed = 0; logged = 0; value = 0 }
 
 unfoldable pub malformed : (addressSize : ℕ) → Lengths → List ℕ → Malformed
 malformed addressSize lengths list = firstMalformed (lowestRule addressSize lengths list) (operationCount list) 0
 
 unfoldable pub verdict : Settings → Lengths → List ℕ → Report
 verdict settings lengths list =
-    cond (not (settingsInRange settings)) (nothingRan 10 0)
-    (cond (not (lengthsInRange lengths list)) (nothingRan 11 0)
-    (nothingRan (malformed (settings .«address_size») lengths list .rule) (malformed (settings .«address_size») lengths list .index)))
+    cond (not (settingsInRange settings)) (refusalReport 10 0)
+    (cond (not (lengthsInRange lengths list)) (refusalReport 11 0)
+    (refusalReport (malformed (settings .«address_size») lengths list .rule) (malformed (settings .«address_size») lengths list .index)))

@@ -4,7 +4,7 @@ ghost use Prim.Native.Nat.{_+_, _*_, _≤_, _<_};
 ghost use lib.ListN.{length};
 ghost use Rattle.operation.specs.Layout.{wordsPerOperation, mostInputs, operationCount};
 ghost use Rattle.operation.specs.Decoding.{decodedAt};
-ghost use Rattle.validation.specs.Verdict.{settingsInRange, lengthsInRange, sizeOrTarget, malformed, verdict, nothingRan};
+ghost use Rattle.validation.specs.Verdict.{settingsInRange, lengthsInRange, sizeOrTarget, malformed, verdict, refusalReport};
 use integer::boolean::either;
 use operation::decode::Decoded;
 use operation::decode::decode;
@@ -40,18 +40,18 @@ pub fn verdict(settings: Settings, lengths: Lengths, list: &[u64]) -> Report
     ensures { λ r. ⌜ r ≡ verdict settings lengths (now (list .entry)) ⌝ }
 {
     if !settings_in_range(settings) {
-        return nothing_ran(10, 0);
+        return refusal_report(10, 0);
     }
     if !lengths_in_range(lengths, list) {
-        return nothing_ran(11, 0);
+        return refusal_report(11, 0);
     }
     let found = first_malformed(settings.address_size, lengths, list);
-    nothing_ran(found.rule, found.index)
+    refusal_report(found.rule, found.index)
 }
 
 // The report of a call in which nothing ran.
-pub fn nothing_ran(ending: u64, index: u64) -> Report
-    ensures { λ r. ⌜ r ≡ nothingRan ending index ⌝ }
+pub fn refusal_report(ending: u64, index: u64) -> Report
+    ensures { λ r. ⌜ r ≡ refusalReport ending index ⌝ }
 {
     Report {
         ending: ending,

@@ -1,4 +1,4 @@
--- Numbers as sums of digits, for any base: the sum's bound, a number's digits summed, a sum's digits. Assumes nothing.
+-- Numbers as sums of digits, for any base: the sum's bound, a number's digits summed, a sum's digits.
 use mathlib.Core.Path.{_≡_, refl, sym, ap, _∙_}
 use mathlib.Core.Bool.{Bool, true, false}
 use Prim.Native.Nat.{ℕ, zero, suc, _+_, _-_, _*_, _/_, _%_, _^_, _<_}

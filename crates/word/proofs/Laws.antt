@@ -1,4 +1,4 @@
--- Laws of the values of bytes, over the size and the byte order. Assumes nothing.
+-- Laws of the values of bytes, over the size and the byte order.
 use mathlib.Core.Path.{_≡_, refl, sym, ap, _∙_}
 use mathlib.Core.Bool.{Bool, true, false}
 use mathlib.Core.List.{List, [], _∷_}

@@ -1,4 +1,4 @@
--- Powers of 256 and numbers cut to a size. Assumes nothing.
+-- Powers of 256 and numbers cut to a size.
 use mathlib.Core.Path.{_≡_, refl, sym, ap, _∙_, subst}
 use Prim.Native.Nat.{ℕ, zero, suc, _+_, _-_, _*_, _/_, _%_, _^_, _≤_, _<_}
 use native.Mathlib.Nat.{pow-suc, mod-lt, mod-eq-of-lt, div-add-mod', lt-of-mul-lt-mul-right, mul-add-mod-self-right, pow-le-pow-right, one-le-pow}

@@ -1,4 +1,4 @@
--- Laws of sums and tabulated lists. Assumes nothing.
+-- Laws of sums and tabulated lists.
 use mathlib.Core.Path.{_≡_, refl, sym, ap, ap₂, _∙_}
 use mathlib.Core.List.{List}
 use Prim.Native.Nat.{ℕ, zero, suc, _+_, _-_, _*_, _≤_, _<_}

@@ -1,4 +1,4 @@
--- Tests that agree. A test `ltb a b` is `leb (suc a) b`, so the law serves both. Assumes nothing.
+-- Tests that agree. A test `ltb a b` is `leb (suc a) b`, so the law serves both.
 use mathlib.Core.Path.{_≡_, refl, sym, _∙_}
 use mathlib.Core.Bool.{Bool, true, false}
 use Prim.Native.Nat.{ℕ, zero, suc, _≤_, _<_}

@@ -1,4 +1,4 @@
--- `arithmetic::value` meets its contract. Each arm is its row of the table of results. Assumes nothing.
+-- `arithmetic::value` meets its contract. Each arm is its row of the table of results.
 use Prim.Native.Nat.{_^_, _<_}
 use mathlib.Core.Path.{refl, sym, ap, _∙_}
 use native.Mathlib.Omega.{arith}
@@ -10,12 +10,12 @@ use Rattle.arithmetic.proofs.Agreement.{agreed, nonzero, halves-fit, ke
 use Rattle.integer.proofs.Overflow.{opposite-is}
 use Rattle.integer.specs.Operations.{flag, intEqual, intNotEqual, intLess, intSless, intLessEqual, intSlessEqual, intZext, intCarry, intScarry, intSborrow, intDiv, intRem, boolNegate, truth}
 use Rattle.arithmetic.specs.Result.{lookup, result}
-use Rattle.arithmetic.specs.Operands.{among, divides, sizesAgree}
+use Rattle.arithmetic.specs.Operands.{member, divides, sizesAgree}
 use Rattle.arithmetic.proofs.value.Statement.{statement}
 use Rattle.arithmetic.proofs.value.Tie as tie
 
 piece-requires : tie.Need-piece-requires
-unfolding sizesAgree among
+unfolding sizesAgree member
 piece-requires c κs = halves-fit (c .before .pre) (agreed (c .before .pre) 10 (c .match .keys1))
 
 subpiece-requires : tie.Need-subpiece-requires
@@ -34,7 +34,7 @@ flag-requires-3 : tie.Need-flag-requires-3
 flag-requires-3 c κs = search needs
 
 less-requires : tie.Need-less-requires
-unfolding sizesAgree among
+unfolding sizesAgree member
 less-requires c κs = (c .before .pre .some0, c .before .pre .most0, c .before .pre .below0, inputs-equal (c .before .pre) (agreed (c .before .pre) 16 (c .match .keys7)))
 
 flag-requires-4 : tie.Need-flag-requires-4
@@ -44,7 +44,7 @@ flag-requires-5 : tie.Need-flag-requires-5
 flag-requires-5 c κs = search needs
 
 less-equal-requires : tie.Need-less-equal-requires
-unfolding sizesAgree among
+unfolding sizesAgree member
 less-equal-requires c κs = (c .before .pre .some0, c .before .pre .most0, c .before .pre .below0, inputs-equal (c .before .pre) (agreed (c .before .pre) 18 (c .match .keys9)))
 
 flag-requires-6 : tie.Need-flag-requires-6
@@ -60,21 +60,21 @@ sub-requires : tie.Need-sub-requires
 sub-requires c κs = search needs
 
 carry-requires : tie.Need-carry-requires
-unfolding sizesAgree among
+unfolding sizesAgree member
 carry-requires c κs = (c .before .pre .some0, c .before .pre .most0, inputs-equal (c .before .pre) (agreed (c .before .pre) 23 (c .match .keys14)))
 
 flag-requires-7 : tie.Need-flag-requires-7
 flag-requires-7 c κs = search needs
 
 carry-requires-2 : tie.Need-carry-requires-2
-unfolding sizesAgree among
+unfolding sizesAgree member
 carry-requires-2 c κs = (c .before .pre .some0, c .before .pre .most0, c .before .pre .below0, inputs-equal (c .before .pre) (agreed (c .before .pre) 24 (c .match .keys15)))
 
 flag-requires-8 : tie.Need-flag-requires-8
 flag-requires-8 c κs = search needs
 
 borrow-requires : tie.Need-borrow-requires
-unfolding sizesAgree among
+unfolding sizesAgree member
 borrow-requires c κs = (c .before .pre .some0, c .before .pre .most0, c .before .pre .below0, inputs-equal (c .before .pre) (agreed (c .before .pre) 25 (c .match .keys16)))
 
 flag-requires-9 : tie.Need-flag-requires-9
@@ -87,7 +87,7 @@ largest-requires : tie.Need-largest-requires
 largest-requires c κs = search needs
 
 sub-result : tie.Need-sub-result
-unfolding sizesAgree among
+unfolding sizesAgree member
 sub-result c =
     let h : c .before .before .args .a < 256 ^ c .before .before .args .size = kept (c .before .before .pre) (agreed (c .before .before .pre) 27 (c .before .match .keys18)) in
     omega (arith, c .largest .ensures)
@@ -99,7 +99,7 @@ right-requires : tie.Need-right-requires
 right-requires c κs = search needs
 
 right-requires-2 : tie.Need-right-requires-2
-unfolding sizesAgree among
+unfolding sizesAgree member
 right-requires-2 c κs = (c .before .pre .some, c .before .pre .most, kept (c .before .pre) (agreed (c .before .pre) 33 (c .match .keys24)))
 
 mult-requires : tie.Need-mult-requires
@@ -114,11 +114,11 @@ unfolding divides
 rem-result c = nonzero (c .before .pre) 36 (c .match .keys27) refl
 
 div-requires : tie.Need-div-requires
-unfolding sizesAgree among divides
+unfolding sizesAgree member divides
 div-requires c κs = let h = all-equal (c .before .pre) (agreed (c .before .pre) 37 (c .match .keys28)) in (c .before .pre .some, c .before .pre .most, h .0, h .1, nonzero (c .before .pre) 37 (c .match .keys28) refl)
 
 rem-requires : tie.Need-rem-requires
-unfolding sizesAgree among divides
+unfolding sizesAgree member divides
 rem-requires c κs = let h = all-equal (c .before .pre) (agreed (c .before .pre) 38 (c .match .keys29)) in (c .before .pre .some, c .before .pre .most, h .0, h .1, nonzero (c .before .pre) 38 (c .match .keys29) refl)
 
 flag-requires-10 : tie.Need-flag-requires-10
@@ -198,27 +198,27 @@ unfolding result lookup intSborrow
 returns-16 c = rw (c .before .before .match .keys16) (c .flag9 .ensures ∙ ap flag (c .before .borrow .ensures))
 
 returns-17 : tie.Need-returns-17
-unfolding result lookup sizesAgree among
+unfolding result lookup sizesAgree member
 returns-17 c = rw (c .before .match .keys17) (c .sub2 .ensures ∙ opposite-is _ _ (kept (c .before .before .pre) (agreed (c .before .before .pre) 26 (c .before .match .keys17))))
 
 returns-18 : tie.Need-returns-18
-unfolding result lookup sizesAgree among
+unfolding result lookup sizesAgree member
 returns-18 c = rw (c .before .match .keys18) (negate-is _ _ _ (kept (c .before .before .pre) (agreed (c .before .before .pre) 27 (c .before .match .keys18))) (c .largest .ensures))
 
 returns-19 : tie.Need-returns-19
-unfolding result lookup sizesAgree among
+unfolding result lookup sizesAgree member
 returns-19 c =
     let h = all-equal (c .before .pre) (agreed (c .before .pre) 28 (c .match .keys19)) in
     rw (c .match .keys19) (xor-is _ _ _ (h .0) (h .1))
 
 returns-20 : tie.Need-returns-20
-unfolding result lookup sizesAgree among
+unfolding result lookup sizesAgree member
 returns-20 c =
     let h = all-equal (c .before .pre) (agreed (c .before .pre) 29 (c .match .keys20)) in
     rw (c .match .keys20) (and-is _ _ _ (h .0) (h .1))
 
 returns-21 : tie.Need-returns-21
-unfolding result lookup sizesAgree among
+unfolding result lookup sizesAgree member
 returns-21 c =
     let h = all-equal (c .before .pre) (agreed (c .before .pre) 30 (c .match .keys21)) in
     rw (c .match .keys21) (or-is _ _ _ (h .0) (h .1))

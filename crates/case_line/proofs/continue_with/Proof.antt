@@ -3,7 +3,7 @@ use borrow.Author.Tests.{not-true, not-false}
 use Rattle.case_line.proofs.Feeding.{fed-bad, bytes-line, inside, in-buffer, fed-outside, fed-memory, fed-labels, operation-line, fed-full, fed-operation}
 use native.Mathlib.Omega.{arith}
 use mathlib.Core.Path.{sym, _∙_}
-use Rattle.case_line.specs.Case.{continued}
+use Rattle.case_line.specs.Case.{extended}
 use borrow.Author.Needs.{needs}
 use Rattle.case_line.proofs.continue_with.Statement.{statement}
 use Rattle.case_line.proofs.continue_with.Tie as tie
@@ -57,7 +57,7 @@ enum-told-3 : tie.Need-enum-told-3
 enum-told-3 c = search needs
 
 returns-4 : tie.Need-returns-4
-unfolding continued
+unfolding extended
 returns-4 c = fed-bad (c .before .before .before .before .before .before .before .args .number) (c .before .before .before .before .before .before .before .args .s .now) (c .before .before .frame-of .ensures) _ _ _ _ (c .before .before .before .before .before .before .before .pre) (rw (c .enum-told .given .1))
 
 same-length-2 : tie.Need-same-length-2
@@ -73,7 +73,7 @@ returns-6 : tie.Need-returns-6
 returns-6 c = fed-operation (c .before .before .before .before .before .before .before .before .before .before .before .before .before .before .before .before .before .args .number) (c .before .before .before .before .before .before .before .before .before .before .before .before .before .before .before .before .before .args .s .now) (c .before .before .before .before .before .before .before .before .before .before .before .before .frame-of .ensures) _ _ _ _ (c .before .before .before .before .before .before .before .before .before .before .before .before .before .before .before .before .before .pre) (c .before .before .before .before .before .before .before .before .before .before .enum-told2 .given .1) (c .before .before .before .before .before .before .before .before .if3 .left) (c .before .before .before .before .before .put-words .ensures)
 
 returns-7 : tie.Need-returns-7
-unfolding continued
+unfolding extended
 returns-7 c = fed-bad (c .before .before .before .before .before .before .before .args .number) (c .before .before .before .before .before .before .before .args .s .now) (c .before .before .frame-of .ensures) _ _ _ _ (c .before .before .before .before .before .before .before .pre) (rw (c .enum-told3 .given .1))
 
 pub continue-with-spec : {M : Type 1} → statement M

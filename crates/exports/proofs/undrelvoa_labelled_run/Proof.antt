@@ -1,4 +1,4 @@
--- `exports::undrelvoa_labelled_run` meets its contract. Assumes nothing.
+-- `exports::undrelvoa_labelled_run` meets its contract.
 use Rattle.exports.proofs.undrelvoa_labelled_run.Statement.{statement}
 use Rattle.exports.proofs.undrelvoa_labelled_run.Tie as tie
 

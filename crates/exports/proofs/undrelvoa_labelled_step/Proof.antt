@@ -1,4 +1,4 @@
--- `exports::undrelvoa_labelled_step` meets its contract. Assumes nothing.
+-- `exports::undrelvoa_labelled_step` meets its contract.
 use Rattle.exports.proofs.undrelvoa_labelled_step.Statement.{statement}
 use Rattle.exports.proofs.undrelvoa_labelled_step.Tie as tie
 

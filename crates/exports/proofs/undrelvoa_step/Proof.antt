@@ -1,4 +1,4 @@
--- `exports::undrelvoa_step` meets its contract. Assumes nothing.
+-- `exports::undrelvoa_step` meets its contract.
 use Rattle.exports.proofs.undrelvoa_step.Statement.{statement}
 use Rattle.exports.proofs.undrelvoa_step.Tie as tie
 

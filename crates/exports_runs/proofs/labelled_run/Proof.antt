@@ -1,4 +1,4 @@
--- `exports_runs::labelled_run` meets its contract. Assumes nothing.
+-- `exports_runs::labelled_run` meets its contract.
 use mathlib.Core.Path.{refl, ap}
 use borrow.Author.Needs.{needs}
 use borrow.Author.Tests.{le-leb, lt-leb}

@@ -1,4 +1,4 @@
--- `exports_runs::run` meets its contract. Assumes nothing.
+-- `exports_runs::run` meets its contract.
 use mathlib.Core.Path.{refl, ap}
 use borrow.Author.Needs.{needs}
 use borrow.Author.Tests.{le-leb, lt-leb}

@@ -1,4 +1,4 @@
--- `exports_runs::write_report` meets its contract. Assumes nothing.
+-- `exports_runs::write_report` meets its contract.
 use mathlib.Core.Path.{refl}
 use native.Mathlib.Omega.{arith}
 use borrow.Author.Needs.{needs}

@@ -1,4 +1,4 @@
--- `exports_values::scatter` meets its contract. Assumes nothing.
+-- `exports_values::scatter` meets its contract.
 use mathlib.Core.Path.{sym, _∙_}
 use borrow.Author.Needs.{needs}
 use borrow.Author.Tests.{ne-eqb}

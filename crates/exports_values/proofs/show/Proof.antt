@@ -1,4 +1,4 @@
--- `exports_values::show` meets its contract. Assumes nothing.
+-- `exports_values::show` meets its contract.
 use Prim.Native.Nat.{ℕ}
 use mathlib.Core.List.{[], _∷_}
 use mathlib.Core.Path.{refl, sym, ap, _∙_}

@@ -1,4 +1,4 @@
--- `exports_values::shown_length` meets its contract. Assumes nothing.
+-- `exports_values::shown_length` meets its contract.
 use mathlib.Core.Path.{ap, _∙_}
 use borrow.Author.Needs.{needs}
 use lib.ListN.{length}

@@ -1,4 +1,4 @@
--- `exports_values::validate` meets its contract. Assumes nothing.
+-- `exports_values::validate` meets its contract.
 use mathlib.Core.Path.{refl, _∙_}
 use borrow.Author.Needs.{needs}
 use borrow.Author.Tests.{le-leb, lt-leb}

@@ -1,4 +1,4 @@
--- `exports_values::value_of` meets its contract. Assumes nothing.
+-- `exports_values::value_of` meets its contract.
 use borrow.Author.Needs.{needs}
 use Rattle.exports_values.proofs.value_of.Statement.{statement}
 use Rattle.exports_values.proofs.value_of.Tie as tie

@@ -1,4 +1,4 @@
--- `printing::put_hex` meets its contract, by recursion on the number of digits. Assumes nothing.
+-- `printing::put_hex` meets its contract, by recursion on the number of digits.
 use Prim.Native.Nat.{ℕ, _<_}
 use native.Mathlib.Omega.{arith}
 use borrow.Author.Needs.{needs}

@@ -1,4 +1,4 @@
--- `printing::digit_code` meets its contract. Assumes nothing.
+-- `printing::digit_code` meets its contract.
 use borrow.Author.Needs.{needs}
 use borrow.Author.Tests.{lt-ltb, le-ltb}
 use Rattle.printing.specs.Text.{digitCode}

@@ -1,4 +1,4 @@
--- `printing::put_field` meets its contract. Assumes nothing.
+-- `printing::put_field` meets its contract.
 use native.Mathlib.Omega.{arith}
 use borrow.Author.Needs.{needs}
 use Rattle.printing.specs.Text.{fieldText}

@@ -1,4 +1,4 @@
--- `printing::put_line` meets its contract: the parts of a line, one behind the other. Assumes nothing.
+-- `printing::put_line` meets its contract: the parts of a line, one behind the other.
 use native.Mathlib.Omega.{arith}
 use borrow.Author.Needs.{needs}
 use Rattle.printing.specs.Text.{dumpLine}

@@ -1,4 +1,4 @@
--- `printing::put_space` meets its contract. The loop's invariant: the lines passed are put. Assumes nothing.
+-- `printing::put_space` meets its contract. The loop's invariant: the lines passed are put.
 use Prim.Native.Nat.{ℕ, _-_, _*_, _≤_}
 use mathlib.Core.Path.{_≡_, refl, ap}
 use mathlib.Core.List.{List}

@@ -1,4 +1,4 @@
--- `printing::put_word` meets its contract. Assumes nothing.
+-- `printing::put_word` meets its contract.
 use native.Mathlib.Omega.{arith}
 use borrow.Author.Needs.{needs}
 use Rattle.printing.specs.Text.{wordLine}

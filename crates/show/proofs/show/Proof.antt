@@ -1,4 +1,4 @@
--- `show::show` meets its contract. Assumes nothing.
+-- `show::show` meets its contract.
 use mathlib.Core.Path.{_∙_}
 use borrow.Author.Needs.{needs}
 use borrow.Author.Tests.{ne-eqb}

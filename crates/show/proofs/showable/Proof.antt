@@ -1,4 +1,4 @@
--- `show::showable` meets its contract. Assumes nothing.
+-- `show::showable` meets its contract.
 use borrow.Author.Needs.{needs}
 use borrow.Author.Tests.{le-leb, lt-leb}
 use Rattle.show.specs.Show.{showable}

@@ -1,4 +1,4 @@
--- `show::shown_in` meets its contract. Assumes nothing.
+-- `show::shown_in` meets its contract.
 use mathlib.Core.Path.{sym, _∙_}
 use native.Mathlib.Omega.{arith}
 use borrow.Author.Needs.{needs}

@@ -1,4 +1,4 @@
--- `validation::decode_at` meets its contract. Assumes nothing.
+-- `validation::decode_at` meets its contract.
 use Prim.Native.Nat.{ℕ}
 use mathlib.Core.Path.{_∙_, ap}
 use borrow.Author.Needs.{needs}

@@ -1,4 +1,4 @@
--- `validation::first_malformed` meets its contract. The walk has found no fault before operation i, nor rule 22 before the place. Assumes nothing.
+-- `validation::first_malformed` meets its contract. The walk has found no fault before operation i, nor rule 22 before the place.
 use Prim.Native.Nat.{_-_, _≤_}
 use mathlib.Core.Bool.{false}
 use mathlib.Core.Path.{_≡_, refl, sym, _∙_}

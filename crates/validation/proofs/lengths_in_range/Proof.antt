@@ -1,4 +1,4 @@
--- `validation::lengths_in_range` meets its contract. Assumes nothing.
+-- `validation::lengths_in_range` meets its contract.
 use mathlib.Core.Path.{sym}
 use borrow.Author.Needs.{needs}
 use borrow.Author.Tests.{le-leb, lt-leb, eq-eqb, ne-eqb}

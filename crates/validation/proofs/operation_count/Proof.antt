@@ -1,4 +1,4 @@
--- `validation::operation_count` meets its contract. Assumes nothing.
+-- `validation::operation_count` meets its contract.
 use mathlib.Core.Path.{refl}
 use Rattle.operation.specs.Layout.{operationCount}
 use Rattle.validation.proofs.operation_count.Statement.{statement}

@@ -1,4 +1,4 @@
--- `validation::settings_in_range` meets its contract. Assumes nothing.
+-- `validation::settings_in_range` meets its contract.
 use borrow.Author.Tests.{le-leb, lt-leb}
 use Rattle.validation.specs.Verdict.{settingsInRange}
 use Rattle.validation.proofs.settings_in_range.Statement.{statement}

@@ -1,4 +1,4 @@
--- `validation::size_or_target` meets its contract. Assumes nothing.
+-- `validation::size_or_target` meets its contract.
 use mathlib.Core.Path.{sym, _∙_}
 use borrow.Author.Needs.{needs}
 use Rattle.validation.proofs.Walk.{same-sizes, same-target}

@@ -1,4 +1,4 @@
--- `validation::verdict` meets its contract. Assumes nothing.
+-- `validation::verdict` meets its contract.
 use mathlib.Core.Path.{sym, _∙_}
 use borrow.Author.Needs.{needs}
 use borrow.Author.Tests.{not-true, not-false}
@@ -9,18 +9,18 @@ use Rattle.validation.proofs.verdict.Tie as tie
 settings-in-range-requires : tie.Need-settings-in-range-requires
 settings-in-range-requires c κs = search needs
 
-nothing-ran-requires : tie.Need-nothing-ran-requires
-nothing-ran-requires c κs = search needs
+refusal-report-requires : tie.Need-refusal-report-requires
+refusal-report-requires c κs = search needs
 
 returns : tie.Need-returns
 unfolding verdict
-returns c = rw (sym (c .before .before .settings-in-range .ensures) ∙ not-true _ (c .before .if1 .taken)) (c .nothing-ran .ensures)
+returns c = rw (sym (c .before .before .settings-in-range .ensures) ∙ not-true _ (c .before .if1 .taken)) (c .refusal-report .ensures)
 
 lengths-in-range-requires : tie.Need-lengths-in-range-requires
 lengths-in-range-requires c κs = search needs
 
-nothing-ran-requires-2 : tie.Need-nothing-ran-requires-2
-nothing-ran-requires-2 c κs = search needs
+refusal-report-requires-2 : tie.Need-refusal-report-requires-2
+refusal-report-requires-2 c κs = search needs
 
 returns-2 : tie.Need-returns-2
 unfolding verdict
@@ -29,8 +29,8 @@ returns-2 c = rw (sym (c .before .before .before .before .settings-in-range .ens
 first-malformed-requires : tie.Need-first-malformed-requires
 first-malformed-requires c κs = search needs
 
-nothing-ran-requires-3 : tie.Need-nothing-ran-requires-3
-nothing-ran-requires-3 c κs = search needs
+refusal-report-requires-3 : tie.Need-refusal-report-requires-3
+refusal-report-requires-3 c κs = search needs
 
 returns-3 : tie.Need-returns-3
 unfolding verdict
@@ -41,11 +41,11 @@ verdict-spec =
     tie.close
     (tie.spec
     settings-in-range-requires
-    nothing-ran-requires
+    refusal-report-requires
     returns
     lengths-in-range-requires
-    nothing-ran-requires-2
+    refusal-report-requires-2
     returns-2
     first-malformed-requires
-    nothing-ran-requires-3
+    refusal-report-requires-3
     returns-3)

@@ -1,4 +1,4 @@
--- `arithmetic::operands::add_up` meets its contract. Assumes nothing.
+-- `arithmetic::operands::add_up` meets its contract.
 use Prim.Native.Nat.{_+_, _-_}
 use mathlib.Core.Path.{sym}
 use native.Mathlib.Omega.{arith}

@@ -1,4 +1,4 @@
--- `arithmetic::operands::is_division` meets its contract. Assumes nothing.
+-- `arithmetic::operands::is_division` meets its contract.
 use borrow.Author.Needs.{needs}
 use Rattle.arithmetic.specs.Operands.{divides}
 use Rattle.arithmetic.proofs.operands.is_division.Statement.{statement}

@@ -1,16 +1,16 @@
--- `arithmetic::operands::sizes_agree` meets its contract. Assumes nothing.
+-- `arithmetic::operands::sizes_agree` meets its contract.
 use Prim.Native.Nat.{ℕ}
 use mathlib.Core.Path.{_≡_, refl, _∙_}
 use mathlib.Core.Bool.{Bool, false}
 use borrow.Author.Needs.{needs}
 use borrow.Author.Tests.{eq-eqb, ne-eqb}
 use Rattle.arithmetic.proofs.Agreement.{sizeKept, sizesEqual, comparisons, extensions, booleans, kept-set, equal-set, compared-set, extended-set, boolean-set, free-set, tested}
-use Rattle.arithmetic.specs.Operands.{among, sizesAgree}
+use Rattle.arithmetic.specs.Operands.{member, sizesAgree}
 use Rattle.arithmetic.proofs.operands.sizes_agree.Statement.{statement}
 use Rattle.arithmetic.proofs.operands.sizes_agree.Tie as tie
 use Rattle.arithmetic.proofs.operands.sizes_agree.Reads as reads
 use Rattle.arithmetic.proofs.operands.sizes_agree.Lts as lts
-use Rattle.arithmetic.proofs.operands.member.Reads as member-reads
+use Rattle.arithmetic.proofs.operands.has_bit.Reads as has-bit-reads
 use Rattle.integer.proofs.boolean.both.Reads as both-reads
 use Rattle.arithmetic.proofs.operands.is_unary.Reads as is-unary-reads
 use Rattle.integer.proofs.boolean.either.Reads as either-reads
@@ -18,8 +18,8 @@ use Rattle.arithmetic.proofs.operands.add_up.Reads as add-up-reads
 
 abbrev calls : lts.Claims
 calls = (
-  member-reads.Asked,
-  member-reads.Learnt,
+  has-bit-reads.Asked,
+  has-bit-reads.Learnt,
   both-reads.Asked,
   both-reads.Learnt,
   is-unary-reads.Asked,
@@ -32,77 +32,77 @@ calls = (
 
 -- ---- the opcode, at each test
 
-abbrev opcode1 : lts.After-member calls reads.Pre reads.Post → ℕ
+abbrev opcode1 : lts.After-has-bit calls reads.Pre reads.Post → ℕ
 opcode1 c = c .before .args .opcode
 
-abbrev opcode2 : lts.After-member2 calls reads.Pre reads.Post → ℕ
+abbrev opcode2 : lts.After-has-bit2 calls reads.Pre reads.Post → ℕ
 opcode2 c = opcode1 (c .before .before)
 
-abbrev opcode3 : lts.After-member3 calls reads.Pre reads.Post → ℕ
+abbrev opcode3 : lts.After-has-bit3 calls reads.Pre reads.Post → ℕ
 opcode3 c = opcode2 (c .before .before)
 
-abbrev opcode4 : lts.After-member4 calls reads.Pre reads.Post → ℕ
+abbrev opcode4 : lts.After-has-bit4 calls reads.Pre reads.Post → ℕ
 opcode4 c = opcode3 (c .before .before)
 
-abbrev opcode5 : lts.After-member5 calls reads.Pre reads.Post → ℕ
+abbrev opcode5 : lts.After-has-bit5 calls reads.Pre reads.Post → ℕ
 opcode5 c = opcode4 (c .before .before)
 
 -- ---- what each test says of the opcode
 
-is-kept : (c : lts.After-member calls reads.Pre reads.Post) {t : Bool} → c .member .result ≡ t → among (opcode1 c) sizeKept ≡ t
-is-kept c h = tested (c .member .ensures) (kept-set _) h
+is-kept : (c : lts.After-has-bit calls reads.Pre reads.Post) {t : Bool} → c .has-bit .result ≡ t → member (opcode1 c) sizeKept ≡ t
+is-kept c h = tested (c .has-bit .ensures) (kept-set _) h
 
-is-equal : (c : lts.After-member2 calls reads.Pre reads.Post) {t : Bool} → c .member2 .result ≡ t → among (opcode2 c) sizesEqual ≡ t
-is-equal c h = tested (c .member2 .ensures) (equal-set _) h
+is-equal : (c : lts.After-has-bit2 calls reads.Pre reads.Post) {t : Bool} → c .has-bit2 .result ≡ t → member (opcode2 c) sizesEqual ≡ t
+is-equal c h = tested (c .has-bit2 .ensures) (equal-set _) h
 
-is-compared : (c : lts.After-member3 calls reads.Pre reads.Post) {t : Bool} → c .member3 .result ≡ t → among (opcode3 c) comparisons ≡ t
-is-compared c h = tested (c .member3 .ensures) (compared-set _) h
+is-compared : (c : lts.After-has-bit3 calls reads.Pre reads.Post) {t : Bool} → c .has-bit3 .result ≡ t → member (opcode3 c) comparisons ≡ t
+is-compared c h = tested (c .has-bit3 .ensures) (compared-set _) h
 
-is-extended : (c : lts.After-member4 calls reads.Pre reads.Post) {t : Bool} → c .member4 .result ≡ t → among (opcode4 c) extensions ≡ t
-is-extended c h = tested (c .member4 .ensures) (extended-set _) h
+is-extended : (c : lts.After-has-bit4 calls reads.Pre reads.Post) {t : Bool} → c .has-bit4 .result ≡ t → member (opcode4 c) extensions ≡ t
+is-extended c h = tested (c .has-bit4 .ensures) (extended-set _) h
 
-is-boolean : (c : lts.After-member5 calls reads.Pre reads.Post) {t : Bool} → c .member5 .result ≡ t → among (opcode5 c) booleans ≡ t
-is-boolean c h = tested (c .member5 .ensures) (boolean-set _) h
+is-boolean : (c : lts.After-has-bit5 calls reads.Pre reads.Post) {t : Bool} → c .has-bit5 .result ≡ t → member (opcode5 c) booleans ≡ t
+is-boolean c h = tested (c .has-bit5 .ensures) (boolean-set _) h
 
 -- ---- and those that were passed
 
-not-kept : (c : lts.Else1 calls reads.Pre reads.Post) → among (opcode1 (c .before)) sizeKept ≡ false
+not-kept : (c : lts.Else1 calls reads.Pre reads.Post) → member (opcode1 (c .before)) sizeKept ≡ false
 not-kept c = is-kept (c .before) (c .if1 .left)
 
-not-equal : (c : lts.Else2 calls reads.Pre reads.Post) → among (opcode2 (c .before)) sizesEqual ≡ false
+not-equal : (c : lts.Else2 calls reads.Pre reads.Post) → member (opcode2 (c .before)) sizesEqual ≡ false
 not-equal c = is-equal (c .before) (c .if2 .left)
 
-not-compared : (c : lts.Else3 calls reads.Pre reads.Post) → among (opcode3 (c .before)) comparisons ≡ false
+not-compared : (c : lts.Else3 calls reads.Pre reads.Post) → member (opcode3 (c .before)) comparisons ≡ false
 not-compared c = is-compared (c .before) (c .if3 .left)
 
-not-extended : (c : lts.Else4 calls reads.Pre reads.Post) → among (opcode4 (c .before)) extensions ≡ false
+not-extended : (c : lts.Else4 calls reads.Pre reads.Post) → member (opcode4 (c .before)) extensions ≡ false
 not-extended c = is-extended (c .before) (c .if4 .left)
 
-not-boolean : (c : lts.Else5 calls reads.Pre reads.Post) → among (opcode5 (c .before)) booleans ≡ false
+not-boolean : (c : lts.Else5 calls reads.Pre reads.Post) → member (opcode5 (c .before)) booleans ≡ false
 not-boolean c = is-boolean (c .before) (c .if5 .left)
 
 -- ---- what the function needs
 
-member-requires : tie.Need-member-requires
-member-requires c κs = search needs
+has-bit-requires : tie.Need-has-bit-requires
+has-bit-requires c κs = search needs
 
-member-requires-2 : tie.Need-member-requires-2
-member-requires-2 c κs = search needs
+has-bit-requires-2 : tie.Need-has-bit-requires-2
+has-bit-requires-2 c κs = search needs
 
 both-requires : tie.Need-both-requires
 both-requires c κs = search needs
 
-member-requires-3 : tie.Need-member-requires-3
-member-requires-3 c κs = search needs
+has-bit-requires-3 : tie.Need-has-bit-requires-3
+has-bit-requires-3 c κs = search needs
 
 both-requires-2 : tie.Need-both-requires-2
 both-requires-2 c κs = search needs
 
-member-requires-4 : tie.Need-member-requires-4
-member-requires-4 c κs = search needs
+has-bit-requires-4 : tie.Need-has-bit-requires-4
+has-bit-requires-4 c κs = search needs
 
-member-requires-5 : tie.Need-member-requires-5
-member-requires-5 c κs = search needs
+has-bit-requires-5 : tie.Need-has-bit-requires-5
+has-bit-requires-5 c κs = search needs
 
 is-unary-requires : tie.Need-is-unary-requires
 is-unary-requires c κs = search needs
@@ -119,8 +119,8 @@ both-requires-4 c κs = search needs
 add-up-requires : tie.Need-add-up-requires
 add-up-requires c κs = search needs
 
-member-requires-6 : tie.Need-member-requires-6
-member-requires-6 c κs = search needs
+has-bit-requires-6 : tie.Need-has-bit-requires-6
+has-bit-requires-6 c κs = search needs
 
 returns : tie.Need-returns
 unfolding sizesAgree
@@ -162,7 +162,7 @@ returns-5 c =
     (rw (not-kept past1, not-equal past2, not-compared past3, not-extended past4, is-boolean (found .before) (found .if5 .taken)) refl)
 
 returns-6 : tie.Need-returns-6
-unfolding sizesAgree among
+unfolding sizesAgree member
 returns-6 c =
     let past5 = c .before .before in
     let past4 = past5 .before .before in
@@ -173,33 +173,33 @@ returns-6 c =
     ∙ rw (not-kept past1, not-equal past2, not-compared past3, not-extended past4, not-boolean past5, eq-eqb _ 10 (c .before .if6 .taken)) refl
 
 returns-7 : tie.Need-returns-7
-unfolding sizesAgree among
+unfolding sizesAgree member
 returns-7 c =
     let past5 = c .before .before in
     let past4 = past5 .before .before in
     let past3 = past4 .before .before in
     let past2 = past3 .before .before in
     let past1 = past2 .before .before in
-    c .member6 .ensures ∙ free-set _
+    c .has-bit6 .ensures ∙ free-set _
     ∙ rw (not-kept past1, not-equal past2, not-compared past3, not-extended past4, not-boolean past5, ne-eqb _ 10 (c .before .if6 .left)) refl
 
 pub sizes-agree-spec : {M : Type 1} → statement M
 sizes-agree-spec =
     tie.close
     (tie.spec
-    member-requires
-    member-requires-2
+    has-bit-requires
+    has-bit-requires-2
     both-requires
-    member-requires-3
+    has-bit-requires-3
     both-requires-2
-    member-requires-4
-    member-requires-5
+    has-bit-requires-4
+    has-bit-requires-5
     is-unary-requires
     either-requires
     both-requires-3
     both-requires-4
     add-up-requires
-    member-requires-6
+    has-bit-requires-6
     returns
     returns-2
     returns-3

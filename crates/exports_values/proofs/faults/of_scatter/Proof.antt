@@ -1,4 +1,4 @@
--- `exports_values::faults::of_scatter` meets its contract. Assumes nothing.
+-- `exports_values::faults::of_scatter` meets its contract.
 use mathlib.Core.Path.{sym, _∙_}
 use borrow.Author.Needs.{needs}
 use borrow.Author.Tests.{le-leb, lt-leb, not-true, not-false}

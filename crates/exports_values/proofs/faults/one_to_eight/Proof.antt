@@ -1,4 +1,4 @@
--- `exports_values::faults::one_to_eight` meets its contract. Assumes nothing.
+-- `exports_values::faults::one_to_eight` meets its contract.
 use borrow.Author.Tests.{lt-leb, le-leb}
 use Rattle.exports_values.specs.Faults.{oneToEight}
 use Rattle.exports_values.proofs.faults.one_to_eight.Statement.{statement}

@@ -1,4 +1,4 @@
--- `exports_values::faults::sizes_present` meets its contract. Assumes nothing.
+-- `exports_values::faults::sizes_present` meets its contract.
 use mathlib.Core.Path.{sym, _∙_}
 use borrow.Author.Needs.{needs}
 use borrow.Author.Tests.{not-true, not-false}

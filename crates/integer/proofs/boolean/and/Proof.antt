@@ -1,4 +1,4 @@
--- `integer::boolean::and` meets its contract. Assumes nothing.
+-- `integer::boolean::and` meets its contract.
 use borrow.Author.Needs.{needs}
 use borrow.Author.Tests.{eq-eqb, ne-eqb}
 use Rattle.integer.specs.Operations.{flag, truth, boolAnd}

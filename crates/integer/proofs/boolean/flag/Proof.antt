@@ -1,4 +1,4 @@
--- `integer::boolean::flag` meets its contract. Assumes nothing.
+-- `integer::boolean::flag` meets its contract.
 use Rattle.integer.specs.Operations.{flag}
 use Rattle.integer.proofs.boolean.flag.Statement.{statement}
 use Rattle.integer.proofs.boolean.flag.Tie as tie

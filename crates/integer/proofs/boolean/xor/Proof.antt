@@ -1,4 +1,4 @@
--- `integer::boolean::xor` meets its contract. Assumes nothing.
+-- `integer::boolean::xor` meets its contract.
 use borrow.Author.Needs.{needs}
 use borrow.Author.Tests.{eq-eqb, ne-eqb}
 use Rattle.integer.proofs.Booleans.{xor-false, xor-true-not}

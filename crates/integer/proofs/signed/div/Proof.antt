@@ -1,4 +1,4 @@
--- `integer::signed::div` meets its contract. Assumes nothing.
+-- `integer::signed::div` meets its contract.
 use mathlib.Core.Logic.{⊎-elim}
 use borrow.Author.Needs.{needs}
 use Rattle.integer.proofs.Division.{divides, sdiv-is, sdiv-least}

@@ -1,4 +1,4 @@
--- `integer::signed::extend` meets its contract. Assumes nothing.
+-- `integer::signed::extend` meets its contract.
 use borrow.Author.Needs.{needs}
 use Rattle.integer.proofs.TwosComplement.{written}
 use Rattle.integer.specs.Operations.{intSext}

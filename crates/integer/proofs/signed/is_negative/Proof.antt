@@ -1,4 +1,4 @@
--- `integer::signed::is_negative` meets its contract. Assumes nothing.
+-- `integer::signed::is_negative` meets its contract.
 use borrow.Author.Needs.{needs}
 use Rattle.integer.proofs.TwosComplement.{sign-test}
 use Rattle.integer.proofs.signed.is_negative.Statement.{statement}

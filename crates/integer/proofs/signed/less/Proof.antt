@@ -1,4 +1,4 @@
--- `integer::signed::less` meets its contract. Assumes nothing.
+-- `integer::signed::less` meets its contract.
 use borrow.Author.Needs.{needs}
 use lib.Signed.{ltZ}
 use Rattle.integer.proofs.TwosComplement.{compared}

@@ -1,4 +1,4 @@
--- `integer::signed::less_equal` meets its contract. Assumes nothing.
+-- `integer::signed::less_equal` meets its contract.
 use borrow.Author.Needs.{needs}
 use lib.Signed.{leZ}
 use Rattle.integer.proofs.TwosComplement.{compared}

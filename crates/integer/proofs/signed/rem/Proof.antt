@@ -1,4 +1,4 @@
--- `integer::signed::rem` meets its contract. Assumes nothing.
+-- `integer::signed::rem` meets its contract.
 use borrow.Author.Needs.{needs}
 use Rattle.integer.proofs.Division.{divides, srem-is, srem-by-minus-one}
 use Rattle.integer.proofs.signed.rem.Statement.{statement}

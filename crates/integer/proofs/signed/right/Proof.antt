@@ -1,4 +1,4 @@
--- `integer::signed::right` meets its contract. Assumes nothing.
+-- `integer::signed::right` meets its contract.
 use Prim.Native.Nat.{_^_}
 use mathlib.Core.Path.{sym, ap, _∙_}
 use borrow.Author.Needs.{needs}

@@ -1,4 +1,4 @@
--- `integer::signed::value_of` meets its contract. Assumes nothing.
+-- `integer::signed::value_of` meets its contract.
 use borrow.Author.Needs.{needs}
 use Rattle.integer.proofs.TwosComplement.{value-low, value-high, high-fits}
 use Rattle.integer.proofs.signed.value_of.Statement.{statement}

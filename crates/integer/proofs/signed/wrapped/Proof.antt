@@ -1,4 +1,4 @@
--- `integer::signed::wrapped` meets its contract. Assumes nothing.
+-- `integer::signed::wrapped` meets its contract.
 use borrow.Author.Needs.{needs}
 use Rattle.integer.proofs.TwosComplement.{cut-le, flip-fits, flip-cast, wrap-neg, pos-cast, wrap-pos}
 use Rattle.integer.proofs.signed.wrapped.Statement.{statement}

@@ -1,4 +1,4 @@
--- `integer::unsigned::add` meets its contract. Assumes nothing.
+-- `integer::unsigned::add` meets its contract.
 use Prim.Native.Nat.{_+_}
 use mathlib.Core.Path.{_∙_}
 use borrow.Author.Needs.{needs}

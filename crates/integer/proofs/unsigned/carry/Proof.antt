@@ -1,4 +1,4 @@
--- `integer::unsigned::carry` meets its contract. Assumes nothing.
+-- `integer::unsigned::carry` meets its contract.
 use borrow.Author.Needs.{needs}
 use Rattle.integer.proofs.Whole.{carry-is}
 use Rattle.integer.proofs.unsigned.carry.Statement.{statement}

@@ -1,4 +1,4 @@
--- `integer::unsigned::left` meets its contract. Assumes nothing.
+-- `integer::unsigned::left` meets its contract.
 use mathlib.Core.Path.{_∙_}
 use borrow.Author.Needs.{needs}
 use borrow.Author.Tests.{lt-ltb, le-ltb}

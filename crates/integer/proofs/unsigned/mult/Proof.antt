@@ -1,4 +1,4 @@
--- `integer::unsigned::mult` meets its contract. Assumes nothing.
+-- `integer::unsigned::mult` meets its contract.
 use Prim.Native.Nat.{_*_}
 use mathlib.Core.Path.{_∙_}
 use borrow.Author.Needs.{needs}

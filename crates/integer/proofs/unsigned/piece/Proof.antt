@@ -1,4 +1,4 @@
--- `integer::unsigned::piece` meets its contract. Assumes nothing.
+-- `integer::unsigned::piece` meets its contract.
 use native.Mathlib.Omega.{arith}
 use borrow.Author.Needs.{needs}
 use Rattle.word.proofs.Powers.{shifted-bytes}

@@ -1,4 +1,4 @@
--- `integer::unsigned::popcount` meets its contract. Assumes nothing.
+-- `integer::unsigned::popcount` meets its contract.
 use native.Mathlib.Omega.{arith}
 use lib.Count.{ones-le}
 use Rattle.integer.proofs.Bits.{popcount-is}

@@ -1,4 +1,4 @@
--- `integer::unsigned::right` meets its contract. Assumes nothing.
+-- `integer::unsigned::right` meets its contract.
 use borrow.Author.Needs.{needs}
 use borrow.Author.Tests.{lt-ltb, le-ltb}
 use Rattle.integer.specs.Operations.{intRight}

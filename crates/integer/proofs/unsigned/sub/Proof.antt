@@ -1,4 +1,4 @@
--- `integer::unsigned::sub` meets its contract. Assumes nothing.
+-- `integer::unsigned::sub` meets its contract.
 use mathlib.Core.Path.{_∙_}
 use native.Mathlib.Omega.{arith}
 use borrow.Author.Needs.{needs}

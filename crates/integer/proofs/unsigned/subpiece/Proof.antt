@@ -1,4 +1,4 @@
--- `integer::unsigned::subpiece` meets its contract. Assumes nothing.
+-- `integer::unsigned::subpiece` meets its contract.
 use mathlib.Core.Path.{sym, _∙_}
 use borrow.Author.Needs.{needs}
 use Rattle.integer.proofs.Whole.{dropped-all}

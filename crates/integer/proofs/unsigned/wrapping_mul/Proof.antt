@@ -1,4 +1,4 @@
--- `integer::unsigned::wrapping_mul` meets its contract. Assumes nothing.
+-- `integer::unsigned::wrapping_mul` meets its contract.
 use Prim.Native.Nat.{_/_, _%_, _^_, _<_}
 use mathlib.Core.Path.{_∙_}
 use native.Mathlib.Omega.{arith}

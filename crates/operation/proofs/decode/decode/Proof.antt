@@ -1,4 +1,4 @@
--- `operation::decode::decode` meets its contract. Assumes nothing.
+-- `operation::decode::decode` meets its contract.
 use mathlib.Core.Bool.{xor}
 use mathlib.Core.Path.{sym, ap, _∙_}
 use borrow.Author.Needs.{needs}

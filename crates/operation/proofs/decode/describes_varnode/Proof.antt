@@ -1,4 +1,4 @@
--- `operation::decode::describes_varnode` meets its contract. Assumes nothing.
+-- `operation::decode::describes_varnode` meets its contract.
 use borrow.Author.Tests.{le-leb, lt-leb}
 use Rattle.operation.specs.Rules.{describesVarnode}
 use Rattle.operation.proofs.decode.describes_varnode.Statement.{statement}

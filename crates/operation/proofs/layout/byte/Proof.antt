@@ -1,4 +1,4 @@
--- `operation::layout::byte` meets its contract. Assumes nothing.
+-- `operation::layout::byte` meets its contract.
 use borrow.Author.Needs.{needs}
 use Rattle.word.proofs.Powers.{pow-bits}
 use Rattle.word.specs.Sum.{digit}

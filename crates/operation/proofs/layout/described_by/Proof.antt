@@ -1,4 +1,4 @@
--- `operation::layout::described_by` meets its contract. Assumes nothing.
+-- `operation::layout::described_by` meets its contract.
 use mathlib.Core.Path.{refl}
 use Rattle.operation.specs.Layout.{describedBy}
 use Rattle.operation.proofs.layout.described_by.Statement.{statement}

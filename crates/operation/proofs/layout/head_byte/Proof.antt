@@ -1,4 +1,4 @@
--- `operation::layout::head_byte` meets its contract. Assumes nothing.
+-- `operation::layout::head_byte` meets its contract.
 use Prim.Native.Nat.{ℕ}
 use mathlib.Core.Path.{ap, _∙_}
 use borrow.Author.Needs.{needs}

@@ -1,4 +1,4 @@
--- `operation::layout::opcode_at` meets its contract. Assumes nothing.
+-- `operation::layout::opcode_at` meets its contract.
 use borrow.Author.Needs.{needs}
 use Rattle.operation.specs.Layout.{opcodeAt}
 use Rattle.operation.proofs.layout.opcode_at.Statement.{statement}

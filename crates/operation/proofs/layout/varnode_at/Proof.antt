@@ -1,4 +1,4 @@
--- `operation::layout::varnode_at` meets its contract. Assumes nothing.
+-- `operation::layout::varnode_at` meets its contract.
 use mathlib.Core.Path.{ap₂, _∙_}
 use borrow.Author.Needs.{needs}
 use Rattle.operation.specs.Layout.{descriptorAt, offsetAt, describedBy, varnodeAt}

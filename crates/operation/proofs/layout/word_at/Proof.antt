@@ -1,4 +1,4 @@
--- `operation::layout::word_at` meets its contract. Assumes nothing.
+-- `operation::layout::word_at` meets its contract.
 use mathlib.Core.Path.{refl}
 use borrow.Author.Needs.{needs}
 use Rattle.operation.specs.Layout.{wordAt}

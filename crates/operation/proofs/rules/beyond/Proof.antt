@@ -1,4 +1,4 @@
--- `operation::rules::beyond` meets its contract. Assumes nothing.
+-- `operation::rules::beyond` meets its contract.
 use mathlib.Core.Bool.{not}
 use mathlib.Core.Path.{sym, ap}
 use borrow.Author.Needs.{needs}

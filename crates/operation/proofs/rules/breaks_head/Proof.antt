@@ -1,4 +1,4 @@
--- `operation::rules::breaks_head` meets its contract. Assumes nothing.
+-- `operation::rules::breaks_head` meets its contract.
 use mathlib.Core.Path.{sym}
 use borrow.Author.Needs.{needs}
 use borrow.Author.Tests.{le-leb, lt-leb, eq-eqb, ne-eqb}

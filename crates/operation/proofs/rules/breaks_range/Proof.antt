@@ -1,4 +1,4 @@
--- `operation::rules::breaks_range` meets its contract. Assumes nothing.
+-- `operation::rules::breaks_range` meets its contract.
 use mathlib.Core.Logic.{⊎-elim}
 use mathlib.Core.Path.{sym, _∙_}
 use borrow.Author.Needs.{needs}

@@ -1,4 +1,4 @@
--- `operation::rules::breaks_size` meets its contract. Assumes nothing.
+-- `operation::rules::breaks_size` meets its contract.
 use mathlib.Core.Bool.{not}
 use mathlib.Core.Path.{sym, ap, _∙_}
 use borrow.Author.Needs.{needs}

@@ -1,4 +1,4 @@
--- `operation::rules::breaks_target` meets its contract. Assumes nothing.
+-- `operation::rules::breaks_target` meets its contract.
 use mathlib.Core.Path.{sym, _∙_}
 use borrow.Author.Needs.{needs}
 use borrow.Author.Tests.{eq-eqb, ne-eqb, not-true, not-false}

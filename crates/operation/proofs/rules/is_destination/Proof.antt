@@ -1,4 +1,4 @@
--- `operation::rules::is_destination` meets its contract. Assumes nothing.
+-- `operation::rules::is_destination` meets its contract.
 use borrow.Author.Tests.{eq-eqb, ne-eqb}
 use Rattle.operation.specs.Rules.{isDestination}
 use Rattle.operation.proofs.rules.is_destination.Statement.{statement}

@@ -1,4 +1,4 @@
--- `operation::rules::length_of` meets its contract. Assumes nothing.
+-- `operation::rules::length_of` meets its contract.
 use borrow.Author.Tests.{eq-eqb, ne-eqb}
 use Rattle.operation.specs.Rules.{lengthOf}
 use Rattle.operation.proofs.rules.length_of.Statement.{statement}

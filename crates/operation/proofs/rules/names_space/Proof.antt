@@ -1,4 +1,4 @@
--- `operation::rules::names_space` meets its contract. Assumes nothing.
+-- `operation::rules::names_space` meets its contract.
 use borrow.Author.Tests.{eq-eqb, ne-eqb, le-leb, lt-leb}
 use Rattle.operation.specs.Rules.{namesSpace}
 use Rattle.operation.proofs.rules.names_space.Statement.{statement}

@@ -1,4 +1,4 @@
--- `operation::rules::target_outside` meets its contract. Assumes nothing.
+-- `operation::rules::target_outside` meets its contract.
 use borrow.Author.Needs.{needs}
 use Rattle.operation.proofs.Targets.{forward, backward}
 use Rattle.operation.proofs.rules.target_outside.Statement.{statement}

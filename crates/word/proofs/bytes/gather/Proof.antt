@@ -1,4 +1,4 @@
--- `word::bytes::gather` meets its contract: each call of the walk is at the size that was asked for. Assumes nothing.
+-- `word::bytes::gather` meets its contract: each call of the walk is at the size that was asked for.
 use Prim.Native.Nat.{ℕ}
 use mathlib.Core.Path.{_≡_, ap, _∙_}
 use native.Mathlib.Omega.{arith}

@@ -1,5 +1,5 @@
 -- `word::bytes::gather_walk` meets its contract. The loop's invariant: the value so far is the sum of the bytes passed, by their weights.
--- Assumes nothing.
+--
 use Prim.Native.Nat.{ℕ, _+_, _-_, _*_, _%_, _^_, _≤_, _<_}
 use mathlib.Core.Path.{_≡_, sym, ap, ap₂, _∙_}
 use native.Mathlib.Numerals.{add-one}

@@ -1,5 +1,5 @@
 -- `word::bytes::scatter_walk` meets its contract. The loop's invariant: the bytes passed are written, and nothing else.
--- Assumes nothing.
+--
 use Prim.Native.Nat.{_+_, _-_, _≤_, _<_}
 use mathlib.Core.Path.{_≡_, refl, sym, _∙_}
 use native.Mathlib.Nat.{le-refl}

@@ -1,4 +1,4 @@
--- `word::bytes::weight` meets its contract. Assumes nothing.
+-- `word::bytes::weight` meets its contract.
 use mathlib.Core.Path.{refl}
 use native.Mathlib.Omega.{arith}
 use borrow.Author.Needs.{needs}

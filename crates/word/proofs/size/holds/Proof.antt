@@ -1,4 +1,4 @@
--- `word::size::holds` meets its contract. Assumes nothing.
+-- `word::size::holds` meets its contract.
 use Prim.Native.Nat.{suc, _^_}
 use native.Mathlib.Omega.{arith}
 use borrow.Author.Needs.{needs}

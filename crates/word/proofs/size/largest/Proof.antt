@@ -1,4 +1,4 @@
--- `word::size::largest` meets its contract. Assumes nothing.
+-- `word::size::largest` meets its contract.
 use borrow.Author.Needs.{needs}
 use Rattle.word.proofs.Powers.{largest-is}
 use Rattle.word.proofs.size.largest.Statement.{statement}

@@ -1,4 +1,4 @@
--- `word::size::low` meets its contract. Assumes nothing.
+-- `word::size::low` meets its contract.
 use Prim.Native.Nat.{_^_}
 use mathlib.Core.Path.{_≡_, sym}
 use native.Mathlib.Nat.{mod-eq-of-lt}

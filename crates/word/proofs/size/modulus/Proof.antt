@@ -1,4 +1,4 @@
--- `word::size::modulus` meets its contract. Assumes nothing.
+-- `word::size::modulus` meets its contract.
 use Prim.Native.Nat.{_*_, _^_, _<_}
 use mathlib.Core.Path.{_∙_}
 use native.Mathlib.Nat.{one-mul, lt-of-le-of-lt}

@@ -1,4 +1,4 @@
--- `word::size::within` meets its contract. Assumes nothing.
+-- `word::size::within` meets its contract.
 use Prim.Native.Nat.{_+_, _-_}
 use mathlib.Core.Path.{sym}
 use native.Mathlib.Omega.{arith}

@@ -1,0 +1,93 @@
+-- `run_labelled::mark_after` meets its contract.
+use mathlib.Core.Path.{refl}
+use Rattle.run_plan.proofs.Places.{in-words}
+use Rattle.run_labelled.proofs.Marking.{nowhere-found, marked, unmarked}
+use borrow.Author.Needs.{needs}
+use Rattle.run_labelled.proofs.mark_after.Statement.{statement}
+use Rattle.run_labelled.proofs.mark_after.Tie as tie
+
+pointer-at-requires : tie.Need-pointer-at-requires
+pointer-at-requires c κs =
+    let at-slice-known = c .before .before .before .before in
+    let entry = at-slice-known .before .before in
+    let h = entry .pre (c .if1 .taken) in
+    (in-words _ _ (h .valid) _ (h .index), h .logged)
+
+target-at-requires : tie.Need-target-at-requires
+target-at-requires c κs =
+    let within1 = c .before in
+    let at-slice-known = within1 .before .before .before .before in
+    let entry = at-slice-known .before .before in
+    let h = entry .pre (within1 .if1 .taken) in
+    in-words _ _ (h .valid) _ (h .index)
+
+becomes-secret-requires : tie.Need-becomes-secret-requires
+becomes-secret-requires c κs =
+    let within2 = c .before .before .before in
+    let at-target-at = within2 .before .before in
+    let at-pointer-at = at-target-at .before in
+    let within1 = at-pointer-at .before in
+    let at-slice-known = within1 .before .before .before .before in
+    let entry = at-slice-known .before .before in
+    let h = entry .pre (within1 .if1 .taken) in
+    rw (at-pointer-at .pointer-at .ensures) (h .readable (λ z. within2 .if2 .taken (nowhere-found _ _ _ (at-pointer-at .pointer-at .ensures) _ (at-target-at .target-at .ensures) z)))
+
+mark-requires : tie.Need-mark-requires
+mark-requires c κs =
+    let at-becomes-secret-arg3 = c .before .before .before .before in
+    let at-struct-known = at-becomes-secret-arg3 .before .before .before .before in
+    let at-target-at = at-struct-known .before in
+    let at-pointer-at = at-target-at .before in
+    let within1 = at-pointer-at .before in
+    let at-slice-known = within1 .before .before .before .before in
+    let entry = at-slice-known .before .before in
+    let h = entry .pre (within1 .if1 .taken) in
+    rw (at-target-at .target-at .ensures, at-pointer-at .pointer-at .ensures) (h .placed)
+
+same-length : tie.Need-same-length
+same-length c = search needs
+
+same-length-2 : tie.Need-same-length-2
+same-length-2 c = search needs
+
+same-length-3 : tie.Need-same-length-3
+same-length-3 c = search needs
+
+returns : tie.Need-returns
+returns c =
+    let at-slice-known4 = c .before .before .before .before in
+    let at-mark = at-slice-known4 .before .before in
+    let at-becomes-secret = at-mark .before .before .before .before in
+    let within2 = at-becomes-secret .before .before .before .before in
+    let at-target-at = within2 .before .before in
+    let at-pointer-at = at-target-at .before in
+    let within1 = at-pointer-at .before in
+    rw (within1 .if1 .taken) (marked _ _ _ (at-pointer-at .pointer-at .ensures) _ (at-target-at .target-at .ensures) _ _ _ (at-becomes-secret .becomes-secret .ensures) (at-mark .mark .ensures))
+
+returns-2 : tie.Need-returns-2
+returns-2 c =
+    let at-target-at = c .before .before in
+    let at-pointer-at = at-target-at .before in
+    let within1 = at-pointer-at .before in
+    let at-slice-known = within1 .before .before .before .before in
+    let entry = at-slice-known .before .before in
+    let h = entry .pre (within1 .if1 .taken) in
+    rw (within1 .if1 .taken) (unmarked _ _ _ (at-pointer-at .pointer-at .ensures) _ (at-target-at .target-at .ensures) _ (c .if2 .left) (h .placed))
+
+returns-3 : tie.Need-returns-3
+returns-3 c = rw (c .if1 .left) refl
+
+pub mark-after-spec : {M : Type 1} → statement M
+mark-after-spec =
+    tie.close
+    (tie.spec
+    pointer-at-requires
+    target-at-requires
+    becomes-secret-requires
+    mark-requires
+    same-length
+    same-length-2
+    same-length-3
+    returns
+    returns-2
+    returns-3)

@@ -1,0 +1,152 @@
+-- What a well-formed operation gives the code: where it may read, what it may move and what it may compute.
+use Prim.Native.Nat.{ℕ, _+_, _*_, _%_, _^_, _≤_, _<_}
+use native.Mathlib.Nat.{div-mul-le-self}
+use mathlib.Core.Path.{_≡_, refl, sym, subst}
+use mathlib.Core.Bool.{Bool, true, false, cond, not, _&&_}
+use mathlib.Core.List.{List, []}
+use native.Mathlib.Omega.{arith}
+use borrow.Author.Tests.{leb-true, ne-eqb, not-false}
+use lib.Dec.{eqb, leb}
+use lib.ListN.{length}
+use Rattle.word.specs.Word.{Bytes}
+use Rattle.integer.proofs.Booleans.{both}
+use Rattle.arithmetic.specs.Operands.{member, sizesAgree}
+use Rattle.operation.specs.declared.layout.Settings.{Settings}
+use Rattle.operation.specs.declared.layout.Lengths.{Lengths}
+use Rattle.operation.specs.Layout.{wordsPerOperation, operationCount, opcodeAt, varnodeAt}
+use Rattle.operation.specs.Shapes.{shapes, rowOf, outputs, hasPlace}
+use Rattle.operation.specs.Rules.{accesses, branches, jumps, namesSpace, breaksPlace, lengthOf, breaksSize}
+use Rattle.operation.proofs.Tables.{data-shape}
+use Rattle.validation.specs.Verdict.{mostOperations, mostBytes, lengthsInRange}
+use Rattle.validation.specs.WellFormed.{WellFormed}
+use Rattle.machine.specs.Memory.{Memory, OfBytes, spaces, lengthsOf, spaceOf, valueAt}
+use Rattle.machine.specs.Effect.{operationAt, absent}
+use Rattle.machine.specs.Conditions.{Words}
+use Rattle.machine.proofs.Conditions.{Destination, Formed, formed}
+use Rattle.machine.proofs.Cases.{either}
+use Rattle.run_memory.specs.Placed.{Placed}
+use Rattle.run_plan.specs.Valid.{Valid}
+use Rattle.run_plan.specs.Plans.{Movable, Branching, Computable}
+use Rattle.run_plan.proofs.Opcodes.{each-branch, access-no-branch, no-branch, late}
+
+-- a list is valid by the lengths of the spaces alone
+pub valid-with : {a b : Lengths} {list : List ℕ} → a ≡ b → Valid b list → Valid a list
+valid-with {list = list} e v = subst (λ (l : Lengths). Valid l list) (sym e) v
+
+-- three lent buffers hold bytes
+pub of-bytes : (unique register ram : List ℕ) → Bytes unique → Bytes register → Bytes ram → OfBytes (spaces unique register ram)
+unfolding spaceOf
+of-bytes unique register ram u r m space =
+    either Bytes (eqb space 2) _ _ u (either Bytes (eqb space 3) _ _ r (either Bytes (eqb space 4) _ _ m (λ i. omega arith)))
+
+pub space-length : (m : Memory) (space : ℕ) → lengthOf (lengthsOf m) space ≡ length (spaceOf m space)
+unfolding lengthOf lengthsOf spaceOf
+space-length m space = by (eqb space 2) (eqb space 3) (eqb space 4)
+  where
+    by : (p q r : Bool) → cond p (length (m .unique)) (cond q (length (m .register)) (cond r (length (m .ram)) 0)) ≡ length (cond p (m .unique) (cond q (m .register) (cond r (m .ram) [])))
+    by true q r = refl
+    by false true r = refl
+    by false false true = refl
+    by false false false = refl
+
+module _ (m : Memory) (addressSize : ℕ) (list : List ℕ) (i : ℕ) (w : WellFormed addressSize (lengthsOf m) list i) where
+  pub placed : (place : ℕ) → place ≤ 3 → (place ≡ 1 → branches (opcodeAt list i) ≡ false) → Placed m (varnodeAt list i place)
+  unfolding absent
+  placed place h exempt = by (hasPlace (opcodeAt list i) place) refl
+    where
+      by : (t : Bool) → hasPlace (opcodeAt list i) place ≡ t → Placed m (varnodeAt list i place)
+      by true e =
+          let p = w .present place h e in
+          record {
+            size = p .3;
+            known = p .1;
+            nowhere = λ z. absurd (let s : 1 ≤ varnodeAt list i place .space = p .0 in let y : ⊥ = omega arith in y);
+            within = λ l. rw (sym (space-length m (varnodeAt list i place .space))) (w .within place h exempt l);
+          }
+      by false e =
+          let a : varnodeAt list i place ≡ absent = w .absent place h e in
+          rw a (record { size = omega arith; known = omega arith; nowhere = λ z. refl; within = λ l. absurd (let y : ⊥ = omega arith in y) })
+
+  -- rule 23 of LOAD and STORE
+  pub movable : accesses (opcodeAt list i) ≡ true → Movable m (operationAt list i)
+  unfolding operationAt breaksPlace namesSpace
+  movable a =
+      let f = access-no-branch (opcodeAt list i) a in
+      let p = w .placed 1 (omega arith) in
+      let q : not (namesSpace (varnodeAt list i 1)) ≡ false = rw a at p in
+      let n = both (eqb (varnodeAt list i 1 .space) 1 && leb 2 (varnodeAt list i 1 .offset)) (leb (varnodeAt list i 1 .offset) 4) (not-false _ q) in
+      record {
+        opcode = a;
+        space = (leb-true 2 (varnodeAt list i 1 .offset) (both (eqb (varnodeAt list i 1 .space) 1) (leb 2 (varnodeAt list i 1 .offset)) (n .0) .1), leb-true (varnodeAt list i 1 .offset) 4 (n .1));
+        loaded = placed 0 (omega arith) (λ z. f) .size;
+        stored = placed 3 (omega arith) (λ z. f);
+      }
+
+  -- rule 25 of the opcodes from 10 on
+  agree : (opcodeAt list i ≡ 1 → ⊥) → accesses (opcodeAt list i) ≡ false → branches (opcodeAt list i) ≡ false → jumps (opcodeAt list i) ≡ false
+      → sizesAgree (opcodeAt list i) (varnodeAt list i 0 .size) (varnodeAt list i 1 .size) (varnodeAt list i 2 .size) ≡ true
+  unfolding breaksSize
+  agree n1 a b j = not-false _ (rw (ne-eqb (opcodeAt list i) 1 n1, a, j, no-branch (opcodeAt list i) b .n5, b) at (w .sized))
+
+  pub computable : (settings : Settings) → Words list → OfBytes m → operationCount list < 2 ^ 64 → accesses (opcodeAt list i) ≡ false → branches (opcodeAt list i) ≡ false
+      → (a b : ℕ) → a ≡ valueAt settings m (varnodeAt list i 1) → b ≡ valueAt settings m (varnodeAt list i 2) → Computable (operationAt list i) a b
+  unfolding operationAt
+  computable settings words bytes small na nb a b ea eb = record {
+    known = w .opcode .0;
+    noAccess = na;
+    noBranch = nb;
+    operands = λ j n1 d.
+        let shape = data-shape (opcodeAt list i) (late (opcodeAt list i) (w .opcode .0) n1 na nb j) (w .opcode .1) in
+        let out = w .present 0 (omega arith) (shape .0) in
+        let in0 = w .present 1 (omega arith) (shape .1) in
+        let f : Formed settings m i (operationAt list i) = formed settings addressSize list i m words bytes small w in
+        record {
+          some = out .2;
+          most = out .3;
+          some0 = in0 .2;
+          most0 = in0 .3;
+          most1 = placed 2 (omega arith) (λ z. nb) .size;
+          below0 = rw ea (f .fits0 nb);
+          below1 = rw eb (f .fits1);
+          agree = agree n1 na nb j;
+          divisor = d;
+        };
+  }
+
+  -- the rules 22 and 23 of BRANCH, CBRANCH and CALL
+  pub branching : Settings → Words list → OfBytes m → operationCount list < 2 ^ 64 → branches (opcodeAt list i) ≡ true → Branching (operationAt list i)
+  unfolding operationAt branches member hasPlace outputs rowOf shapes
+  branching settings words bytes small b =
+      let f : Formed settings m i (operationAt list i) = formed settings addressSize list i m words bytes small w in
+      record {
+        opcode = b;
+        relative = by (f .branchTo b);
+        noOutput = f .noOutput (each-branch (λ k. hasPlace k 0 ≡ false) refl refl refl (opcodeAt list i) b);
+      }
+    where
+      by : Destination i (varnodeAt list i 1) → eqb (varnodeAt list i 1 .space) 1 ≡ not (eqb (varnodeAt list i 1 .space) 4)
+      by (Destination.inList s f l) = rw (s, f) refl
+      by (Destination.inRam s f) = rw (s, f) refl
+
+-- ---- lengths and indices
+
+pub in-range : (lengths : Lengths) (list : List ℕ) → lengthsInRange lengths list ≡ true
+    → (operationCount list ≤ mostOperations) × (lengths .unique ≤ mostBytes) × (lengths .register ≤ mostBytes) × (lengths .ram ≤ mostBytes)
+unfolding lengthsInRange
+in-range lengths list e =
+    let whole : Bool = eqb (length list % wordsPerOperation) 0 in
+    let few : Bool = leb (operationCount list) mostOperations in
+    let u : Bool = leb (lengths .unique) mostBytes in
+    let r : Bool = leb (lengths .register) mostBytes in
+    let a = both (whole && few && u && r) (leb (lengths .ram) mostBytes) e in
+    let b = both (whole && few && u) r (a .0) in
+    let c = both (whole && few) u (b .0) in
+    (leb-true _ _ (both whole few (c .0) .1), leb-true _ _ (c .1), leb-true _ _ (b .1), leb-true _ _ (a .1))
+
+module _ (lengths : Lengths) (list : List ℕ) (v : Valid lengths list) (i : ℕ) (h : i < operationCount list) where
+  pub in-words : wordsPerOperation * i + wordsPerOperation ≤ length list
+  unfolding operationCount
+  in-words = omega (arith, div-mul-le-self (length list) 5)
+
+  pub index-small : i < 4096
+  index-small = omega (arith, in-range lengths list (v .inRange) .0)

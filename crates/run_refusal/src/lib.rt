@@ -1,0 +1,151 @@
+// What is refused before anything runs.
+ghost use mathlib.Core.Path.{_≡_};
+ghost use mathlib.Core.Bool.{true};
+ghost use Prim.Native.Nat.{max};
+ghost use Rattle.machine.specs.Memory.{spaces, lengthsOf};
+ghost use Rattle.machine.specs.Calls.{sameLengths, allLabels, labelsInRange, refusal};
+use operation::layout::Lengths;
+use operation::layout::Settings;
+use operation::report::Report;
+use validation::first_malformed;
+use validation::lengths_in_range;
+use validation::operation_count;
+use validation::refusal_report;
+use validation::settings_in_range;
+
+// The refusals of a plain run.
+pub fn plain_refusal(
+    settings: Settings,
+    list: &[u64],
+    start: u64,
+    unique: &[u8],
+    register: &[u8],
+    ram: &[u8],
+) -> Report
+    ensures { λ r. ⌜ r ≡ refusal settings (lengthsOf (spaces (now (unique .entry)) (now (register .entry)) (now (ram .entry)))) (now (list .entry)) start true true ⌝ }
+{
+    refusal(
+        settings,
+        lengths_of(unique, register, ram),
+        list,
+        start,
+        true,
+        true,
+    )
+}
+
+// The refusals of a labelled run.
+pub fn labelled_refusal(
+    settings: Settings,
+    list: &[u64],
+    start: u64,
+    unique: &[u8],
+    register: &[u8],
+    ram: &[u8],
+    unique_labels: &[u8],
+    register_labels: &[u8],
+    ram_labels: &[u8],
+) -> Report
+    ensures { λ r. ⌜ r ≡ refusal settings (lengthsOf (spaces (now (unique .entry)) (now (register .entry)) (now (ram .entry)))) (now (list .entry)) start
+        (sameLengths (lengthsOf (spaces (now («unique_labels» .entry)) (now («register_labels» .entry)) (now («ram_labels» .entry))))
+        (lengthsOf (spaces (now (unique .entry)) (now (register .entry)) (now (ram .entry)))))
+        (labelsInRange (spaces (now («unique_labels» .entry)) (now («register_labels» .entry)) (now («ram_labels» .entry)))) ⌝ }
+{
+    let lengths = lengths_of(unique, register, ram);
+    let fitting = same_lengths(
+        lengths_of(unique_labels, register_labels, ram_labels),
+        lengths,
+    );
+    let valid = labels_in_range(unique_labels, register_labels, ram_labels);
+    refusal(settings, lengths, list, start, fitting, valid)
+}
+
+fn lengths_of(unique: &[u8], register: &[u8], ram: &[u8]) -> Lengths
+    ensures { λ r. ⌜ r ≡ lengthsOf (spaces (now (unique .entry)) (now (register .entry)) (now (ram .entry))) ⌝ }
+{
+    Lengths {
+        unique: unique.len() as u64,
+        register: register.len() as u64,
+        ram: ram.len() as u64,
+    }
+}
+
+// The refusals in their order, as a report; its ending is 0 where nothing is refused. `fitting` and `valid` say that no label calls
+// for 11 or for 12.
+fn refusal(
+    settings: Settings,
+    lengths: Lengths,
+    list: &[u64],
+    start: u64,
+    fitting: bool,
+    valid: bool,
+) -> Report
+    ensures { λ r. ⌜ r ≡ refusal settings lengths (now (list .entry)) start fitting valid ⌝ }
+{
+    if !settings_in_range(settings) {
+        return refusal_report(10, 0);
+    }
+    if !lengths_in_range(lengths, list) {
+        return refusal_report(11, 0);
+    }
+    if !fitting {
+        return refusal_report(11, 0);
+    }
+    if !valid {
+        return refusal_report(12, 0);
+    }
+    let found = first_malformed(settings.address_size, lengths, list);
+    if found.rule != 0 {
+        return refusal_report(found.rule, found.index);
+    }
+    let count = operation_count(list) as u64;
+    if count < start {
+        return refusal_report(27, 0);
+    }
+    refusal_report(0, 0)
+}
+
+// 11 LENGTH, for labels: label and space lengths unequal.
+fn same_lengths(a: Lengths, b: Lengths) -> bool
+    ensures { λ r. ⌜ r ≡ sameLengths a b ⌝ }
+{
+    if a.unique != b.unique {
+        return false;
+    }
+    if a.register != b.register {
+        return false;
+    }
+    a.ram == b.ram
+}
+
+// 12 LABEL: a label not 0 or 1.
+fn labels_in_range(unique: &[u8], register: &[u8], ram: &[u8]) -> bool
+    ensures { λ r. ⌜ r ≡ labelsInRange (spaces (now (unique .entry)) (now (register .entry)) (now (ram .entry))) ⌝ }
+{
+    if !all_labels(unique) {
+        return false;
+    }
+    if !all_labels(register) {
+        return false;
+    }
+    all_labels(ram)
+}
+
+// Each label is 0 or 1: so the largest is. A loop that left at the first other one would take one label at a time.
+fn all_labels(labels: &[u8]) -> bool
+    ensures { λ r. ⌜ r ≡ allLabels (now (labels .entry)) ⌝ }
+{
+    let mut most: u8 = 0;
+    let mut i: usize = 0;
+    while i < labels.len() {
+        most = larger(most, labels[i]);
+        i = i + 1;
+    }
+    most <= 1
+}
+
+fn larger(a: u8, b: u8) -> u8
+    ensures { λ r. ⌜ r ≡ max a b ⌝ }
+{
+    if a < b { b } else { a }
+}

@@ -1,0 +1,131 @@
+// What an operation must find public, and what becomes secret by it.
+ghost use mathlib.Core.Path.{_≡_};
+ghost use Prim.Native.Nat.{_+_, _*_, _≤_, _<_};
+ghost use lib.ListN.{length};
+ghost use Rattle.operation.specs.Layout.{wordsPerOperation, operationCount};
+ghost use Rattle.machine.specs.Memory.{Memory, spaces, lengthsOf};
+ghost use Rattle.machine.specs.Effect.{operationAt, absent, pointee};
+ghost use Rattle.machine.specs.Conditions.{hasSecret, leaks, destinationBytes, becomesSecret};
+ghost use Rattle.run_memory.specs.Placed.{Placed};
+ghost use Rattle.run_plan.specs.Valid.{Valid};
+ghost use Rattle.run_taint.specs.Taint.{Readable};
+use arithmetic::operands::is_division;
+use integer::boolean::either;
+use operation::layout::Varnode;
+use operation::layout::opcode_at;
+use operation::layout::varnode_at;
+use operation::rules::accesses;
+use operation::rules::jumps;
+use run_memory::labels::has_secret;
+
+// LEAK: a byte that must be public is secret.
+pub fn leaks_at<'a>(
+    list: &[u64],
+    unique: &'a [u8],
+    register: &'a [u8],
+    ram: &'a [u8],
+    i: usize,
+) -> bool
+    requires { ⌜ Valid (lengthsOf (spaces (now unique) (now register) (now ram))) (now list) × (i < operationCount (now list)) ⌝ }
+    ensures { λ r. ⌜ r ≡ leaks (spaces (now (unique .entry)) (now (register .entry)) (now (ram .entry))) (operationAt (now (list .entry)) i) ⌝ }
+{
+    has_secret(unique, register, ram, sink_at(list, i))
+}
+
+// The varnode that must be public: input0 of an exit, input1 of LOAD, STORE, CBRANCH and a division; else an absent one. The first test
+// tells most operations.
+fn sink_at(list: &[u64], i: usize) -> Varnode
+    requires { ⌜ wordsPerOperation * i + wordsPerOperation ≤ length (now list) ⌝ }
+    ensures leak { λ r. ⌜ ((labels : Memory) → hasSecret labels r ≡ leaks labels (operationAt (now (list .entry)) i)) ⌝ }
+    ensures place { λ r. ⌜ ((labels : Memory) → Valid (lengthsOf labels) (now (list .entry)) → i < operationCount (now (list .entry)) → Placed labels r) ⌝ }
+{
+    let opcode = opcode_at(list, i);
+    if 9 < opcode {
+        if is_division(opcode) {
+            return varnode_at(list, i, 2);
+        }
+        return absent();
+    }
+    if either(accesses(opcode), opcode == 5) {
+        return varnode_at(list, i, 2);
+    }
+    if jumps(opcode) {
+        return varnode_at(list, i, 1);
+    }
+    absent()
+}
+
+fn absent() -> Varnode
+    ensures { λ r. ⌜ r ≡ absent ⌝ }
+{
+    Varnode {
+        space: 0,
+        offset: 0,
+        size: 0,
+    }
+}
+
+// The bytes at a pointer, in the space that input0 names.
+fn pointee_at(list: &[u64], i: usize, pointer: u64, size: u64) -> Varnode
+    requires { ⌜ wordsPerOperation * i + wordsPerOperation ≤ length (now list) ⌝ }
+    ensures { λ r. ⌜ r ≡ pointee (operationAt (now (list .entry)) i) pointer size ⌝ }
+{
+    let input0 = varnode_at(list, i, 1);
+    Varnode {
+        space: input0.offset,
+        offset: pointer,
+        size: size,
+    }
+}
+
+// What operation i writes to; an absent varnode for branches.
+pub fn target_at(list: &[u64], i: usize, pointer: u64) -> Varnode
+    requires { ⌜ wordsPerOperation * i + wordsPerOperation ≤ length (now list) ⌝ }
+    ensures { λ r. ⌜ r ≡ destinationBytes (operationAt (now (list .entry)) i) pointer ⌝ }
+{
+    if opcode_at(list, i) == 3 {
+        let input2 = varnode_at(list, i, 3);
+        return pointee_at(list, i, pointer, input2.size);
+    }
+    varnode_at(list, i, 0)
+}
+
+// Whether what operation i writes becomes secret. A LOAD's own varnodes are public by now, so only the bytes loaded are looked at. The
+// first test tells most operations, which look at both inputs, as COPY does at last.
+pub fn becomes_secret<'a>(
+    list: &[u64],
+    unique: &'a [u8],
+    register: &'a [u8],
+    ram: &'a [u8],
+    i: usize,
+    pointer: u64,
+) -> bool
+    requires { ⌜ Readable (spaces (now unique) (now register) (now ram)) (now list) i pointer ⌝ }
+    ensures { λ r. ⌜ r ≡ becomesSecret (spaces (now (unique .entry)) (now (register .entry)) (now (ram .entry))) (operationAt (now (list .entry)) i) pointer ⌝ }
+{
+    let opcode = opcode_at(list, i);
+    if 9 < opcode {
+        let first = has_secret(unique, register, ram, varnode_at(list, i, 1));
+        return either(
+            first,
+            has_secret(unique, register, ram, varnode_at(list, i, 2)),
+        );
+    }
+    if opcode == 3 {
+        return has_secret(unique, register, ram, varnode_at(list, i, 3));
+    }
+    if opcode == 2 {
+        let output = varnode_at(list, i, 0);
+        return has_secret(
+            unique,
+            register,
+            ram,
+            pointee_at(list, i, pointer, output.size),
+        );
+    }
+    let first = has_secret(unique, register, ram, varnode_at(list, i, 1));
+    either(
+        first,
+        has_secret(unique, register, ram, varnode_at(list, i, 2)),
+    )
+}
