@@ -43,7 +43,7 @@ returns-2 c =
     let decoded = tested .before .before in
     let entry = decoded .before .before in
     code-leaves _ _ _ _ _ (decoded .opcode-at .ensures) (tested .before .varnode-at .ensures) (entry .pre .2) _ (tested .both .ensures) _
-    _ (flagged .flag .ensures) (flagged .before .if1 .left) (c .before .if2 .taken) (c .unwritten2 .ensures)
+    _ (flagged .flag .ensures) (flagged .before .if1 .left) (c .before .if2 .taken) (c .control2 .ensures)
 
 wrapping-add-u64-requires : tie.Need-wrapping-add-u64-requires
 wrapping-add-u64-requires c κs = search needs
@@ -59,7 +59,7 @@ returns-3 c =
     let decoded = tested .before .before in
     let entry = decoded .before .before in
     code-follows _ _ _ _ _ (decoded .opcode-at .ensures) (tested .before .varnode-at .ensures) (entry .pre .2) _ (tested .both .ensures) _
-    _ (flagged .flag .ensures) (flagged .before .if1 .left) (c .before .before .if2 .left) _ (c .before .wrapping-add-u64 .ensures) (c .unwritten3 .ensures)
+    _ (flagged .flag .ensures) (flagged .before .if1 .left) (c .before .before .if2 .left) _ (c .before .wrapping-add-u64 .ensures) (c .control3 .ensures)
 
 pub branch-at-spec : {M : Type 1} → statement M
 branch-at-spec =

@@ -54,7 +54,7 @@ returns-3 c =
     let decoded = late .before .before in
     let entry = decoded .before .before in
     code-by-zero _ _ _ _ (decoded .opcode-at .ensures) (entry .pre .2) (late .if1 .left)
-    _ _ (tested .before .is-division .ensures) (tested .both .ensures) _ _ (c .before .if3 .taken) (c .unwritten2 .ensures)
+    _ _ (tested .before .is-division .ensures) (tested .both .ensures) _ _ (c .before .if3 .taken) (c .control2 .ensures)
 
 varnode-at-requires-2 : tie.Need-varnode-at-requires-2
 varnode-at-requires-2 c κs = search needs

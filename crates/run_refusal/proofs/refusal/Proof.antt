@@ -24,21 +24,21 @@ refusal-report-requires-2 c κs = search needs
 
 returns-2 : tie.Need-returns-2
 unfolding refusal
-returns-2 c = rw (sym (c .before .before .before .before .settings-in-range .ensures) ∙ not-false _ (c .before .before .before .if1 .left), sym (c .before .before .lengths-in-range .ensures) ∙ not-true _ (c .before .if2 .taken)) (c .nothing-ran2 .ensures)
+returns-2 c = rw (sym (c .before .before .before .before .settings-in-range .ensures) ∙ not-false _ (c .before .before .before .if1 .left), sym (c .before .before .lengths-in-range .ensures) ∙ not-true _ (c .before .if2 .taken)) (c .refusal-report2 .ensures)
 
 refusal-report-requires-3 : tie.Need-refusal-report-requires-3
 refusal-report-requires-3 c κs = search needs
 
 returns-3 : tie.Need-returns-3
 unfolding refusal
-returns-3 c = rw (sym (c .before .before .before .before .before .settings-in-range .ensures) ∙ not-false _ (c .before .before .before .before .if1 .left), sym (c .before .before .before .lengths-in-range .ensures) ∙ not-false _ (c .before .before .if2 .left), not-true (c .before .before .before .before .before .before .before .args .fitting) (c .before .if3 .taken)) (c .nothing-ran3 .ensures)
+returns-3 c = rw (sym (c .before .before .before .before .before .settings-in-range .ensures) ∙ not-false _ (c .before .before .before .before .if1 .left), sym (c .before .before .before .lengths-in-range .ensures) ∙ not-false _ (c .before .before .if2 .left), not-true (c .before .before .before .before .before .before .before .args .fitting) (c .before .if3 .taken)) (c .refusal-report3 .ensures)
 
 refusal-report-requires-4 : tie.Need-refusal-report-requires-4
 refusal-report-requires-4 c κs = search needs
 
 returns-4 : tie.Need-returns-4
 unfolding refusal
-returns-4 c = rw (sym (c .before .before .before .before .before .before .settings-in-range .ensures) ∙ not-false _ (c .before .before .before .before .before .if1 .left), sym (c .before .before .before .before .lengths-in-range .ensures) ∙ not-false _ (c .before .before .before .if2 .left), not-false (c .before .before .before .before .before .before .before .before .args .fitting) (c .before .before .if3 .left), not-true (c .before .before .before .before .before .before .before .before .args .valid) (c .before .if4 .taken)) (c .nothing-ran4 .ensures)
+returns-4 c = rw (sym (c .before .before .before .before .before .before .settings-in-range .ensures) ∙ not-false _ (c .before .before .before .before .before .if1 .left), sym (c .before .before .before .before .lengths-in-range .ensures) ∙ not-false _ (c .before .before .before .if2 .left), not-false (c .before .before .before .before .before .before .before .before .args .fitting) (c .before .before .if3 .left), not-true (c .before .before .before .before .before .before .before .before .args .valid) (c .before .if4 .taken)) (c .refusal-report4 .ensures)
 
 first-malformed-requires : tie.Need-first-malformed-requires
 first-malformed-requires c κs = search needs
@@ -48,7 +48,7 @@ refusal-report-requires-5 c κs = search needs
 
 returns-5 : tie.Need-returns-5
 unfolding refusal
-returns-5 c = rw (sym (c .before .before .before .before .before .before .before .before .before .settings-in-range .ensures) ∙ not-false _ (c .before .before .before .before .before .before .before .before .if1 .left), sym (c .before .before .before .before .before .before .before .lengths-in-range .ensures) ∙ not-false _ (c .before .before .before .before .before .before .if2 .left), not-false (c .before .before .before .before .before .before .before .before .before .before .before .args .fitting) (c .before .before .before .before .before .if3 .left), not-false (c .before .before .before .before .before .before .before .before .before .before .before .args .valid) (c .before .before .before .before .if4 .left), sym (c .before .before .before .first-malformed .ensures), ne-eqb _ 0 (c .before .if5 .taken)) (c .nothing-ran5 .ensures)
+returns-5 c = rw (sym (c .before .before .before .before .before .before .before .before .before .settings-in-range .ensures) ∙ not-false _ (c .before .before .before .before .before .before .before .before .if1 .left), sym (c .before .before .before .before .before .before .before .lengths-in-range .ensures) ∙ not-false _ (c .before .before .before .before .before .before .if2 .left), not-false (c .before .before .before .before .before .before .before .before .before .before .before .args .fitting) (c .before .before .before .before .before .if3 .left), not-false (c .before .before .before .before .before .before .before .before .before .before .before .args .valid) (c .before .before .before .before .if4 .left), sym (c .before .before .before .first-malformed .ensures), ne-eqb _ 0 (c .before .if5 .taken)) (c .refusal-report5 .ensures)
 
 operation-count-requires : tie.Need-operation-count-requires
 operation-count-requires c κs = search needs
@@ -58,14 +58,14 @@ refusal-report-requires-6 c κs = search needs
 
 returns-6 : tie.Need-returns-6
 unfolding refusal
-returns-6 c = rw (sym (c .before .before .before .before .before .before .before .before .before .before .before .settings-in-range .ensures) ∙ not-false _ (c .before .before .before .before .before .before .before .before .before .before .if1 .left), sym (c .before .before .before .before .before .before .before .before .before .lengths-in-range .ensures) ∙ not-false _ (c .before .before .before .before .before .before .before .before .if2 .left), not-false (c .before .before .before .before .before .before .before .before .before .before .before .before .before .args .fitting) (c .before .before .before .before .before .before .before .if3 .left), not-false (c .before .before .before .before .before .before .before .before .before .before .before .before .before .args .valid) (c .before .before .before .before .before .before .if4 .left), sym (c .before .before .before .before .before .first-malformed .ensures), eq-eqb _ 0 (c .before .before .before .if5 .left), sym (c .before .before .operation-count .ensures), lt-ltb _ _ (c .before .if6 .taken)) (c .nothing-ran6 .ensures)
+returns-6 c = rw (sym (c .before .before .before .before .before .before .before .before .before .before .before .settings-in-range .ensures) ∙ not-false _ (c .before .before .before .before .before .before .before .before .before .before .if1 .left), sym (c .before .before .before .before .before .before .before .before .before .lengths-in-range .ensures) ∙ not-false _ (c .before .before .before .before .before .before .before .before .if2 .left), not-false (c .before .before .before .before .before .before .before .before .before .before .before .before .before .args .fitting) (c .before .before .before .before .before .before .before .if3 .left), not-false (c .before .before .before .before .before .before .before .before .before .before .before .before .before .args .valid) (c .before .before .before .before .before .before .if4 .left), sym (c .before .before .before .before .before .first-malformed .ensures), eq-eqb _ 0 (c .before .before .before .if5 .left), sym (c .before .before .operation-count .ensures), lt-ltb _ _ (c .before .if6 .taken)) (c .refusal-report6 .ensures)
 
 refusal-report-requires-7 : tie.Need-refusal-report-requires-7
 refusal-report-requires-7 c κs = search needs
 
 returns-7 : tie.Need-returns-7
 unfolding refusal
-returns-7 c = rw (sym (c .before .before .before .before .before .before .before .before .before .before .before .settings-in-range .ensures) ∙ not-false _ (c .before .before .before .before .before .before .before .before .before .before .if1 .left), sym (c .before .before .before .before .before .before .before .before .before .lengths-in-range .ensures) ∙ not-false _ (c .before .before .before .before .before .before .before .before .if2 .left), not-false (c .before .before .before .before .before .before .before .before .before .before .before .before .before .args .fitting) (c .before .before .before .before .before .before .before .if3 .left), not-false (c .before .before .before .before .before .before .before .before .before .before .before .before .before .args .valid) (c .before .before .before .before .before .before .if4 .left), sym (c .before .before .before .before .before .first-malformed .ensures), eq-eqb _ 0 (c .before .before .before .if5 .left), sym (c .before .before .operation-count .ensures), le-ltb _ _ (c .before .if6 .left)) (c .nothing-ran7 .ensures)
+returns-7 c = rw (sym (c .before .before .before .before .before .before .before .before .before .before .before .settings-in-range .ensures) ∙ not-false _ (c .before .before .before .before .before .before .before .before .before .before .if1 .left), sym (c .before .before .before .before .before .before .before .before .before .lengths-in-range .ensures) ∙ not-false _ (c .before .before .before .before .before .before .before .before .if2 .left), not-false (c .before .before .before .before .before .before .before .before .before .before .before .before .before .args .fitting) (c .before .before .before .before .before .before .before .if3 .left), not-false (c .before .before .before .before .before .before .before .before .before .before .before .before .before .args .valid) (c .before .before .before .before .before .before .if4 .left), sym (c .before .before .before .before .before .first-malformed .ensures), eq-eqb _ 0 (c .before .before .before .if5 .left), sym (c .before .before .operation-count .ensures), le-ltb _ _ (c .before .if6 .left)) (c .refusal-report7 .ensures)
 
 pub refusal-spec : {M : Type 1} → statement M
 refusal-spec =

@@ -24,7 +24,7 @@ refusal-report-requires-2 c κs = search needs
 
 returns-2 : tie.Need-returns-2
 unfolding verdict
-returns-2 c = rw (sym (c .before .before .before .before .settings-in-range .ensures) ∙ not-false _ (c .before .before .before .if1 .left), sym (c .before .before .lengths-in-range .ensures) ∙ not-true _ (c .before .if2 .taken)) (c .nothing-ran2 .ensures)
+returns-2 c = rw (sym (c .before .before .before .before .settings-in-range .ensures) ∙ not-false _ (c .before .before .before .if1 .left), sym (c .before .before .lengths-in-range .ensures) ∙ not-true _ (c .before .if2 .taken)) (c .refusal-report2 .ensures)
 
 first-malformed-requires : tie.Need-first-malformed-requires
 first-malformed-requires c κs = search needs
@@ -34,7 +34,7 @@ refusal-report-requires-3 c κs = search needs
 
 returns-3 : tie.Need-returns-3
 unfolding verdict
-returns-3 c = rw (sym (c .before .before .before .before .before .settings-in-range .ensures) ∙ not-false _ (c .before .before .before .before .if1 .left), sym (c .before .before .before .lengths-in-range .ensures) ∙ not-false _ (c .before .before .if2 .left), sym (c .before .first-malformed .ensures)) (c .nothing-ran3 .ensures)
+returns-3 c = rw (sym (c .before .before .before .before .before .settings-in-range .ensures) ∙ not-false _ (c .before .before .before .before .if1 .left), sym (c .before .before .before .lengths-in-range .ensures) ∙ not-false _ (c .before .before .if2 .left), sym (c .before .first-malformed .ensures)) (c .refusal-report3 .ensures)
 
 pub verdict-spec : {M : Type 1} → statement M
 verdict-spec =
