@@ -11,17 +11,17 @@ use lib.Count.{ones-le}
 use lib.Signed.{shrZ}
 use Rattle.word.specs.Sum.{sum, digit}
 use Rattle.word.proofs.Digits.{digit-lt, digits-lt}
-use Rattle.word.proofs.Powers.{pow-bits}
-use Rattle.word.proofs.Powers.{size-pos, size-mono}
+use Rattle.word.proofs.Powers.{pow-bits, size-pos, size-mono}
 use Rattle.integer.specs.Integers.{signed, wrap, negative}
 use Rattle.integer.specs.Operations.{flag, piece, subpiece, popcount, intEqual, intNotEqual, intLess, intSless, intLessEqual, intSlessEqual, intZext, intSext, intAdd, intSub, intCarry, intScarry, intSborrow, int2comp, intNegate, intXor, intAnd, intOr, intLeft, intRight, intSright, intMult, intDiv, intRem, intSdiv, intSrem, boolNegate, boolXor, boolAnd, boolOr}
-use Rattle.arithmetic.specs.Operands.{Operands, member, sizesAgree}
-use Rattle.arithmetic.specs.Result.{lookup, result}
+use Rattle.arithmetic.specs.Opcodes.{opcodes, rowOf, sizesOf}
+use Rattle.arithmetic.specs.Operands.{Operands, agree, sizesAgree}
+use Rattle.arithmetic.specs.Result.{lookup, integerResults, result}
 use Rattle.integer.proofs.Booleans.{flag-lt}
 use Rattle.integer.proofs.Whole.{piece-lt}
 use Rattle.integer.proofs.Bits.{popcount-is}
 use Rattle.integer.proofs.TwosComplement.{wrap-lt}
-use Rattle.arithmetic.proofs.Agreement.{agreed, kept, all-equal}
+use Rattle.arithmetic.proofs.Agreement.{agreed, size-kept, all-equal}
 
 -- either of two numbers
 either-lt : (t : Bool) (x y m : ℕ) → x < m → y < m → cond t x y < m
@@ -80,7 +80,7 @@ module _ {opcode size size0 size1 a b : ℕ} (o : Operands opcode size size0 siz
       (either-lt (negative (signed size a)) (256 ^ size - 1) 0 (256 ^ size) (omega (arith, positive)) positive)
 
   pub result-below : result opcode size size0 size1 a b < 256 ^ size
-  unfolding result sizesAgree member subpiece intEqual intNotEqual intLess intSless intLessEqual intSlessEqual intZext intSext intAdd intSub intCarry intScarry intSborrow int2comp intNegate intXor intAnd intOr intLeft intRight intMult intDiv intRem intSdiv intSrem boolNegate boolXor boolAnd boolOr
+  unfolding result integerResults sizesAgree agree sizesOf rowOf opcodes subpiece intEqual intNotEqual intLess intSless intLessEqual intSlessEqual intZext intSext intAdd intSub intCarry intScarry intSborrow int2comp intNegate intXor intAnd intOr intLeft intRight intMult intDiv intRem intSdiv intSrem boolNegate boolXor boolAnd boolOr
   result-below =
       lookup-lt opcode (256 ^ size) positive
       ((λ e. piece-below (agreed o 10 e))
@@ -105,7 +105,7 @@ module _ {opcode size size0 size1 a b : ℕ} (o : Operands opcode size size0 siz
       ⨾ (λ e. bits-below (λ k. min (digit 2 a k) (digit 2 b k)) (λ k. omega (arith, bit-lt a k)))
       ⨾ (λ e. bits-below (λ k. max (digit 2 a k) (digit 2 b k)) (λ k. omega (arith, bit-lt a k, bit-lt b k)))
       ⨾ (λ e. either-lt (ltb b (8 * size)) (a * 2 ^ b % 256 ^ size) 0 (256 ^ size) (mod-lt _ positive) positive)
-      ⨾ (λ e. either-lt (ltb b (8 * size)) (a / 2 ^ b) 0 (256 ^ size) (lt-of-le-of-lt (div-le-self a (2 ^ b)) (kept o (agreed o 32 e))) positive)
+      ⨾ (λ e. either-lt (ltb b (8 * size)) (a / 2 ^ b) 0 (256 ^ size) (lt-of-le-of-lt (div-le-self a (2 ^ b)) (size-kept o (agreed o 32 e))) positive)
       ⨾ (λ e. sright-below)
       ⨾ (λ e. mod-lt _ positive)
       ⨾ (λ e. lt-of-le-of-lt (div-le-self a b) (all-equal o (agreed o 35 e) .0))

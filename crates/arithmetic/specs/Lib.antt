@@ -1,2 +1,3 @@
+pub mod Opcodes
 pub mod Operands
 pub mod Result

@@ -1,4 +1,4 @@
--- The value of an operation's output, by its opcode.
+-- The value of an operation's output, by its opcode: a table for each family of operations.
 use Prim.Native.Nat.{ℕ}
 use mathlib.Core.Bool.{cond}
 use mathlib.Core.List.{List, [], _∷_}
@@ -10,10 +10,10 @@ unfoldable pub lookup : ℕ → List (ℕ × ℕ) → ℕ
 lookup n [] = 0
 lookup n (row ∷ rows) = cond (eqb n (row .0)) (row .1) (lookup n rows)
 
-unfoldable pub result : (opcode size size0 size1 a b : ℕ) → ℕ
-result opcode size size0 size1 a b =
-    lookup opcode
-    ((10, piece size1 a b)
+-- The integer operations.
+unfoldable pub integerResults : (size size0 size1 a b : ℕ) → List (ℕ × ℕ)
+integerResults size size0 size1 a b =
+    (10, piece size1 a b)
     ∷ (11, subpiece size a b)
     ∷ (12, popcount size0 a)
     ∷ (13, intEqual a b)
@@ -46,4 +46,8 @@ result opcode size size0 size1 a b =
     ∷ (40, boolXor a b)
     ∷ (41, boolAnd a b)
     ∷ (42, boolOr a b)
-    ∷ [])
+    ∷ []
+
+-- The value of an opcode, from the tables of all families: `size` bytes of output, inputs of size0 and size1 bytes with the values a and b.
+unfoldable pub result : (opcode size size0 size1 a b : ℕ) → ℕ
+result opcode size size0 size1 a b = lookup opcode (integerResults size size0 size1 a b)

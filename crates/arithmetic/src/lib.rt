@@ -1,18 +1,28 @@
-// The values of the integer operations of paper 01, opcodes 10 to 42.
+// The values of the integer operations of paper 01, by opcode.
 ghost use mathlib.Core.Path.{_≡_};
 ghost use Rattle.arithmetic.specs.Operands.{Operands};
-ghost use Rattle.arithmetic.specs.Result.{result};
+ghost use Rattle.arithmetic.specs.Result.{lookup, integerResults, result};
 use integer::boolean;
 use integer::boolean::flag;
 use integer::signed;
 use integer::unsigned;
 
+pub mod opcodes;
 pub mod operands;
 
-// The value of the output of an operation: `size` bytes of output, inputs of size0 and size1 bytes with the values a and b.
+// The value of the output of an operation: `size` bytes of output, inputs of size0 and size1 bytes with the values a and b. A family of
+// operations has a function of its own.
 pub fn value(opcode: u64, size: u64, size0: u64, size1: u64, a: u64, b: u64) -> u64
     requires { ⌜ Operands opcode size size0 size1 a b ⌝ }
     ensures { λ r. ⌜ r ≡ result opcode size size0 size1 a b ⌝ }
+{
+    integer_value(opcode, size, size0, size1, a, b)
+}
+
+// The integer operations.
+fn integer_value(opcode: u64, size: u64, size0: u64, size1: u64, a: u64, b: u64) -> u64
+    requires { ⌜ Operands opcode size size0 size1 a b ⌝ }
+    ensures { λ r. ⌜ r ≡ lookup opcode (integerResults size size0 size1 a b) ⌝ }
 {
     match opcode {
         10 => unsigned::piece(size1, a, b),

@@ -5,7 +5,7 @@ use mathlib.Core.Path.{_≡_}
 use native.Mathlib.Omega.{arith}
 use borrow.Author.Tests.{leb-true, ltb-true, eqb-true, eqb-false, not-false}
 use lib.Dec.{eqb, leb, ltb}
-use Rattle.arithmetic.specs.Operands.{unary, divides, sizesAgree, Operands}
+use Rattle.arithmetic.specs.Operands.{divides, sizesAgree, Operands}
 use Rattle.integer.proofs.Booleans.{both, passed}
 use Rattle.exports_values.specs.Faults.{oneToEight, sizesPresent, valueFault, gatherFault, scatterFault}
 

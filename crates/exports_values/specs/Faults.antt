@@ -2,7 +2,7 @@
 use Prim.Native.Nat.{ℕ, _+_, _^_}
 use mathlib.Core.Bool.{Bool, cond, not, _&&_}
 use lib.Dec.{eqb, leb, ltb}
-use Rattle.arithmetic.specs.Operands.{unary, divides, sizesAgree}
+use Rattle.arithmetic.specs.Operands.{divides, sizesAgree}
 
 -- A size of a varnode that is present.
 unfoldable pub oneToEight : ℕ → Bool

@@ -1,5 +1,5 @@
 -- Laws of Booleans.
-use mathlib.Core.Path.{_≡_, refl}
+use mathlib.Core.Path.{_≡_, refl, _∙_}
 use mathlib.Core.Bool.{Bool, true, false, cond, not, xor, _&&_, _||_}
 use native.Mathlib.Omega.{arith}
 use Prim.Native.Nat.{ℕ, _<_}
@@ -43,6 +43,10 @@ or-true false t e = e
 pub passed : (t : Bool) (n rest : ℕ) → 0 < n → cond t n rest ≡ 0 → (t ≡ false) × (rest ≡ 0)
 passed true n rest h e = absurd (let z : ⊥ = omega arith in z)
 passed false n rest h e = (refl, e)
+
+-- the answer of a choice, its parts as the definition has them
+pub pick-is : {A : Type 0} {t u : Bool} {r x y a b : A} → r ≡ cond t x y → t ≡ u → x ≡ a → y ≡ b → r ≡ cond u a b
+pick-is e test first second = e ∙ rw (test, first, second) refl
 
 -- a result of a comparison is 0 or 1
 pub flag-lt : (t : Bool) → flag t < 2

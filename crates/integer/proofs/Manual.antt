@@ -10,8 +10,7 @@ use lib.Dec.{ltb}
 use lib.IntN.{ℤ, pos, negsuc, _-ℤ_}
 use lib.Pow.{pow-pos, pow-mono, pow-add, field, shr-lt, high}
 use lib.Signed.{shrZ}
-use Rattle.word.proofs.Powers.{pow-bits}
-use Rattle.word.proofs.Powers.{size-pos, size-mono}
+use Rattle.word.proofs.Powers.{pow-bits, size-pos, size-mono}
 use Rattle.integer.specs.Integers.{signed, wrap, negative}
 use Rattle.integer.specs.Operations.{flag, subpiece, intLess, intSext, intAdd, intSub, int2comp, intLeft, intRight, intSright, intMult, intDiv, intRem, intSdiv, intSrem}
 use Rattle.integer.specs.Manual.{Manual}

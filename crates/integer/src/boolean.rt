@@ -1,6 +1,6 @@
 // Truth values: 0 is false, and every other number is true.
 ghost use mathlib.Core.Path.{_≡_};
-ghost use mathlib.Core.Bool.{_&&_, _||_};
+ghost use mathlib.Core.Bool.{cond, _&&_, _||_};
 ghost use Rattle.integer.specs.Operations.{flag, boolXor, boolAnd, boolOr};
 
 pub fn flag(b: bool) -> u64
@@ -36,7 +36,7 @@ pub fn or(a: u64, b: u64) -> u64
     1
 }
 
-// As functions, `&&` and `||` add no branches, and so no cases, to the proofs of their callers.
+// As functions, `&&`, `||` and a choice add no branches, and so no cases, to the proofs of their callers.
 pub fn both(p: bool, q: bool) -> bool
     ensures { λ r. ⌜ r ≡ p && q ⌝ }
 {
@@ -47,4 +47,16 @@ pub fn either(p: bool, q: bool) -> bool
     ensures { λ r. ⌜ r ≡ p || q ⌝ }
 {
     if p { true } else { q }
+}
+
+pub fn pick(test: bool, number: u64, rest: u64) -> u64
+    ensures { λ r. ⌜ r ≡ cond test number rest ⌝ }
+{
+    if test { number } else { rest }
+}
+
+pub fn pick_test(test: bool, yes: bool, no: bool) -> bool
+    ensures { λ r. ⌜ r ≡ cond test yes no ⌝ }
+{
+    if test { yes } else { no }
 }

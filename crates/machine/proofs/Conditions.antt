@@ -9,26 +9,22 @@ use lib.Dec.{eqb, leb, ltb}
 use lib.ListN.{length, replicate}
 use Rattle.word.specs.Word.{part, valueOf, bytesOf}
 use Rattle.word.proofs.Laws.{part-length, part-bytes, value-lt}
-use Rattle.arithmetic.specs.Result.{lookup, result}
+use Rattle.arithmetic.specs.Result.{lookup, integerResults, result}
 use Rattle.integer.specs.Operations.{flag, piece, subpiece, intZext}
-use Rattle.arithmetic.specs.Operands.{member, divides}
+use Rattle.arithmetic.specs.Opcodes.{member, opcodes, rowOf, outputs, inputs, hasPlace}
+use Rattle.arithmetic.specs.Operands.{divides}
 use Rattle.integer.proofs.Booleans.{or-false, both, neither}
 use Rattle.operation.specs.declared.layout.Settings.{Settings}
 use Rattle.operation.specs.declared.layout.Varnode.{Varnode}
 use Rattle.machine.specs.Program.{Program, bigEndian}
 use Rattle.machine.specs.Memory.{Memory, OfBytes, lengthsOf, spaceOf, withSpace, bytesAt, written, valueAt}
-use Rattle.machine.specs.Effect.{Operation, operationAt, Kind, kindOf, moves, dropped, computed, absent, anySecret, secret, sinks, tested, valuesOf, pointee}
-use Rattle.machine.specs.Effect.{sources, target, bytesWritten, labelsWritten}
-use Rattle.machine.specs.Run.{Stop, Decision, Position, Stepped, indexOf, goTo, logWord, logging, access, checked, decided, advanced, ended, endingOf, testedValue}
-use Rattle.machine.specs.Run.{applyDecision, executeAs, execute, stepped, continued, run}
-use Rattle.machine.specs.Conditions.{hasSecret, leaks, exceedsSpace, taken, branchTaken, outOfBounds, dividesByZero, writesLog, lowPart, logWordOf, exits}
-use Rattle.machine.specs.Conditions.{destination, nextIndex, destinationBytes, becomesSecret, valueComputed, valueMoved, valueWritten, positionAfter, exactStepWith}
-use Rattle.machine.specs.Conditions.{labelsAfter, exactStep, exactStepWithin, Words, ExactConditions}
+use Rattle.operation.specs.Layout.{absent, wordsPerOperation, operationCount, wordAt, offsetAt, describedBy, varnodeAt}
+use Rattle.machine.specs.Effect.{Operation, operationAt, Kind, kindOf, moves, dropped, computed, anySecret, secret, sinks, tested, valuesOf, pointee, sources, target, bytesWritten, labelsWritten}
+use Rattle.machine.specs.Run.{Stop, Decision, Position, Stepped, indexOf, goTo, logWord, logging, access, checked, decided, advanced, ended, endingOf, testedValue, applyDecision, executeAs, execute, stepped, continued, run}
+use Rattle.machine.specs.Conditions.{hasSecret, leaks, exceedsSpace, taken, branchTaken, outOfBounds, dividesByZero, writesLog, lowPart, logWordOf, exits, destination, nextIndex, destinationBytes, becomesSecret, valueComputed, valueMoved, valueWritten, positionAfter, exactStepWith, labelsAfter, exactStep, exactStepWithin, Words, ExactConditions}
 use Rattle.operation.specs.Rules.{accesses, namesSpace, isDestination, breaksPlace, branches, jumps, relativeTarget}
-use Rattle.operation.specs.Layout.{wordsPerOperation, operationCount, wordAt, offsetAt, describedBy, varnodeAt}
 use Rattle.operation.proofs.Targets.{wrapping}
 use lib.IntN.{pos}
-use Rattle.operation.specs.Shapes.{shapes, rowOf, outputs, inputs, hasPlace}
 use Rattle.validation.specs.WellFormed.{WellFormed}
 use Rattle.validation.specs.Verdict.{mostOperations, mostBytes, lengthsInRange}
 use Rattle.validation.proofs.WellFormed.{verdict-zero}
@@ -553,7 +549,7 @@ module _ (program : Program) (op : Operation) (at : Position) (labels m : Memory
     bytes-copy e = moved-whole (program .settings) op m (op .input0) (op .output .size) (rw e refl) (rw e refl) bytes (f .fits0 (rw e refl)) ∙ rw e refl
 
     bytes-zext : op .opcode ≡ 19 → Bytes (op .output .size) (op .input0 ∷ [])
-    unfolding valueWritten valueMoved valueComputed result lookup intZext moves dropped member branches
+    unfolding valueWritten valueMoved valueComputed result integerResults lookup intZext moves dropped member branches
     bytes-zext e = moved-whole (program .settings) op m (op .input0) (op .output .size) (rw e refl) (rw e refl) bytes (f .fits0 (rw e refl)) ∙ rw e refl
 
     bytes-load : op .opcode ≡ 2 → Bytes (op .output .size) (pointee op b (op .output .size) ∷ [])
@@ -575,12 +571,12 @@ module _ (program : Program) (op : Operation) (at : Position) (labels m : Memory
         rw (n1 .0, n2 .0, n3 .0) refl)
 
     bytes-piece : op .opcode ≡ 10 → Bytes (op .output .size) (op .input1 ∷ op .input0 ∷ [])
-    unfolding valueWritten valueMoved valueComputed result lookup piece moves dropped member branches
+    unfolding valueWritten valueMoved valueComputed result integerResults lookup piece moves dropped member branches
     bytes-piece e =
         moved-both (program .settings) op m (op .input0) (op .input1) (op .output .size) (rw e refl) (rw e refl) bytes (f .fits0 (rw e refl)) (f .fits1) ∙ rw e refl
 
     bytes-subpiece : op .opcode ≡ 11 → Bytes (op .output .size) (op .input0 ∷ [])
-    unfolding valueWritten valueMoved valueComputed result lookup subpiece moves dropped member branches
+    unfolding valueWritten valueMoved valueComputed result integerResults lookup subpiece moves dropped member branches
     bytes-subpiece e =
         moved-part (program .settings) op m (op .input0) (op .input1 .offset) (op .output .size) (rw e refl) (rw e refl) bytes (f .fits0 (rw e refl))
         ∙ ap (λ (k : ℕ). bytesOf (bigEndian (program .settings)) (op .output .size) (subpiece (op .output .size) a k)) (sym (constant-value (program .settings) m (op .input1) (f .constant1 e)))
@@ -593,7 +589,7 @@ module _ (program : Program) (op : Operation) (at : Position) (labels m : Memory
         eqb-true (op .input0 .space) 1 (both (eqb (op .input0 .space) 1) (leb 2 (op .input0 .offset)) (n .0) .0)
 
     pub meets : Meets
-    unfolding classOf kindOf branches jumps divides accesses member moves hasPlace outputs inputs rowOf shapes free divisions indirectBranches directBranches conditionalBranch load store
+    unfolding classOf kindOf branches jumps divides accesses member moves hasPlace outputs inputs rowOf opcodes free divisions indirectBranches directBranches conditionalBranch load store
     meets =
         when (op .opcode) 1 (λ e. meets-copy (ap classOf e) (rw e refl) (bytes-copy e)) (λ n1.
         when (op .opcode) 2 (λ e. meets-load (ap classOf e) (names-a-space (rw e refl)) (bytes-load e)) (λ n2.
@@ -655,8 +651,8 @@ module _ (settings : Settings) (addressSize : ℕ) (list : List ℕ) (i : ℕ) (
   pub formed : Formed settings m i (operationAt list i)
   unfolding operationAt absent varnodeAt describedBy offsetAt wordAt
   formed = record {
-    noOutput = λ e. w .absent 0 (omega arith) e;
-    noInput1 = λ e. w .absent 2 (omega arith) e;
+    noOutput = λ e. w .omitted 0 (omega arith) e;
+    noInput1 = λ e. w .omitted 2 (omega arith) e;
     named = λ e. names _ _ (w .placed 1 (omega arith)) e;
     constant1 = λ e. is-constant _ _ (w .placed 2 (omega arith)) e;
     branchTo = λ e. destination-of i (operationCount list) (varnodeAt list i 1) (leads _ _ (w .placed 1 (omega arith)) e) (words _) small (λ s. w .target e s);

@@ -15,10 +15,10 @@ use Rattle.integer.specs.Operations.{flag}
 use Rattle.integer.proofs.Booleans.{neither}
 use Rattle.operation.specs.declared.layout.Settings.{Settings}
 use Rattle.operation.specs.declared.layout.Varnode.{Varnode}
-use Rattle.operation.specs.Layout.{operationCount}
+use Rattle.operation.specs.Layout.{operationCount, absent}
 use Rattle.machine.specs.Program.{Program, bigEndian}
 use Rattle.machine.specs.Memory.{Memory, bytesAt, valueAt, ordered, digitsAt}
-use Rattle.machine.specs.Effect.{Operation, Kind, operationAt, absent, sinks, tested, moves, dropped, digitsOf, valuesOf, computed, bytesWritten, anySecret, secret, labelsWritten}
+use Rattle.machine.specs.Effect.{Operation, Kind, operationAt, sinks, tested, moves, dropped, digitsOf, valuesOf, computed, bytesWritten, anySecret, secret, labelsWritten}
 use Rattle.machine.specs.Run.{Decision, Position, Ended, Stepped, decided, checked, ended, testedValue, applyDecision, executeAs, execute, stepped, continued, run}
 use Rattle.machine.proofs.Pointwise.{Each, Spaces, each-length, spaces-space, spaces-at, spaces-written}
 use Rattle.machine.proofs.Cases.{either, either₂}

@@ -10,7 +10,7 @@ use lib.Dec.{eqb, leb}
 use lib.ListN.{length, getD, replicate}
 use Rattle.word.specs.Word.{bytesOf}
 use Rattle.integer.specs.Operations.{flag}
-use Rattle.arithmetic.specs.Operands.{member}
+use Rattle.arithmetic.specs.Opcodes.{member}
 use Rattle.arithmetic.specs.Result.{result}
 use Rattle.operation.specs.declared.layout.Varnode.{Varnode}
 use Rattle.operation.specs.Layout.{operationCount}

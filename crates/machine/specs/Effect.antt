@@ -6,11 +6,12 @@ use lib.Dec.{eqb}
 use lib.ListN.{getD, replicate}
 use Rattle.word.specs.Word.{part, bytesOf}
 use Rattle.integer.specs.Operations.{flag}
-use Rattle.arithmetic.specs.Operands.{member, divides}
+use Rattle.arithmetic.specs.Opcodes.{member}
+use Rattle.arithmetic.specs.Operands.{divides}
 use Rattle.arithmetic.specs.Result.{result}
 use Rattle.operation.specs.declared.layout.Settings.{Settings}
 use Rattle.operation.specs.declared.layout.Varnode.{Varnode}
-use Rattle.operation.specs.Layout.{opcodeAt, varnodeAt}
+use Rattle.operation.specs.Layout.{opcodeAt, absent, varnodeAt}
 use Rattle.operation.specs.Rules.{branches, jumps}
 use Rattle.machine.specs.Program.{bigEndian}
 use Rattle.machine.specs.Memory.{Memory, bytesAt, valueAt, ordered, digitsAt}
@@ -35,10 +36,6 @@ operationAt list i =
       input1 = varnodeAt list i 2;
       input2 = varnodeAt list i 3;
     }
-
--- No varnode: nothing is read from it, and nothing is written to it.
-unfoldable pub absent : Varnode
-absent = record { space = 0; offset = 0; size = 0 }
 
 -- Operations by what they do. `copy` is COPY and INT_ZEXT, `branch` BRANCH and CALL, `jump` BRANCHIND, CALLIND and RETURN, `divide`
 -- the divisions and remainders, `compute` all others.

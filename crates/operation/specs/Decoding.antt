@@ -5,7 +5,7 @@ use mathlib.Core.List.{List}
 use Rattle.operation.specs.declared.decode.Decoded.{Decoded}
 use Rattle.operation.specs.declared.decode.Decoded.the-variants.{Accepted, Fault}
 use Rattle.operation.specs.Layout.{opcodeAt, descriptorAt, offsetAt, describedBy}
-use Rattle.operation.specs.Shapes.{hasPlace}
+use Rattle.arithmetic.specs.Opcodes.{hasPlace}
 use Rattle.operation.specs.Rules.{breaksShape}
 
 unfoldable pub decoded : (wanted : Bool) (descriptor offset : ℕ) → Decoded

@@ -1,19 +1,18 @@
 -- Paper 01, 'The list': how operations lie in their words.
-use Prim.Native.Nat.{ℕ, _+_, _*_, _/_, _%_}
+use Prim.Native.Nat.{ℕ, _+_, _*_, _/_, _%_, _^_}
 use mathlib.Core.List.{List}
 use lib.ListN.{length, getD}
 use Rattle.word.specs.Sum.{digit}
+use Rattle.arithmetic.specs.Opcodes.{mostInputs}
 use Rattle.operation.specs.declared.layout.Varnode.{Varnode}
 
--- Words to an operation, inputs that one can have, and the last opcode.
+-- Words to an operation: the head, then the offset of the output and those of the inputs.
 abbrev pub wordsPerOperation : ℕ
-wordsPerOperation = 5
+wordsPerOperation = mostInputs + 2
 
-abbrev pub mostInputs : ℕ
-mostInputs = 3
-
-abbrev pub lastOpcode : ℕ
-lastOpcode = 42
+-- Bytes of the head that are used: the opcode, then the descriptor of the output and those of the inputs. The others are spare.
+abbrev pub headBytes : ℕ
+headBytes = mostInputs + 2
 
 -- n, the number of operations of a list; also the index of its end.
 unfoldable pub operationCount : List ℕ → ℕ
@@ -23,23 +22,34 @@ operationCount list = length list / wordsPerOperation
 unfoldable pub wordAt : List ℕ → (i k : ℕ) → ℕ
 wordAt list i k = getD list (wordsPerOperation * i + k) 0
 
--- Byte k of the head of operation i, least significant first: the opcode, a descriptor for each place, then zeros.
+-- Byte k of the head of operation i, least significant first.
 unfoldable pub headByte : List ℕ → (i k : ℕ) → ℕ
 headByte list i k = digit 256 (wordAt list i 0) k
 
+-- The number that the spare bytes of the head make.
+unfoldable pub spareAt : List ℕ → (i : ℕ) → ℕ
+spareAt list i = wordAt list i 0 / 256 ^ headBytes
+
+-- Byte 0 is the opcode.
 unfoldable pub opcodeAt : List ℕ → (i : ℕ) → ℕ
 opcodeAt list i = headByte list i 0
 
--- A varnode's place in its operation: 0 for the output, 1 to 3 for input0 to input2.
+-- A varnode's place in its operation is 0 for the output, 1 for input0, and so on: its descriptor,
 unfoldable pub descriptorAt : List ℕ → (i place : ℕ) → ℕ
 descriptorAt list i place = headByte list i (place + 1)
 
+-- and its offset.
 unfoldable pub offsetAt : List ℕ → (i place : ℕ) → ℕ
 offsetAt list i place = wordAt list i (place + 1)
+
+-- No varnode: nothing is read from it, and nothing is written to it.
+unfoldable pub absent : Varnode
+absent = record { space = 0; offset = 0; size = 0 }
 
 -- A descriptor is space × 16 + size.
 unfoldable pub describedBy : (descriptor offset : ℕ) → Varnode
 describedBy descriptor offset = record { space = descriptor / 16; offset = offset; size = descriptor % 16 }
 
+-- The varnode at a place of operation i.
 unfoldable pub varnodeAt : List ℕ → (i place : ℕ) → Varnode
 varnodeAt list i place = describedBy (descriptorAt list i place) (offsetAt list i place)

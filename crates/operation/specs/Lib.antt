@@ -1,4 +1,3 @@
 pub mod Layout
-pub mod Shapes
 pub mod Rules
 pub mod Decoding

@@ -5,25 +5,26 @@ use mathlib.Core.List.{List, [], _∷_}
 use lib.Dec.{eqb, leb, ltb}
 use lib.IntN.{ℤ, pos, _+ℤ_}
 use lib.Signed.{ltZ}
+use Rattle.word.specs.Word.{isSize}
 use Rattle.integer.specs.Integers.{signed}
-use Rattle.arithmetic.specs.Operands.{member, sizesAgree}
+use Rattle.arithmetic.specs.Opcodes.{lastOpcode, hasPlace, member}
+use Rattle.arithmetic.specs.Operands.{sizesAgree}
 use Rattle.operation.specs.declared.layout.Varnode.{Varnode}
 use Rattle.operation.specs.declared.layout.Lengths.{Lengths}
-use Rattle.operation.specs.Layout.{lastOpcode, headByte, opcodeAt, descriptorAt, offsetAt}
-use Rattle.operation.specs.Shapes.{hasPlace}
+use Rattle.operation.specs.Layout.{spareAt, opcodeAt, descriptorAt, offsetAt}
 
 -- ---- 21 HEAD: opcode not 1 to 42, or a spare head byte not zero.
 
 unfoldable pub breaksHead : List ℕ → (i : ℕ) → Bool
 breaksHead list i =
     not (leb 1 (opcodeAt list i) && leb (opcodeAt list i) lastOpcode)
-    || not (eqb (headByte list i 5) 0 && eqb (headByte list i 6) 0 && eqb (headByte list i 7) 0)
+    || not (eqb (spareAt list i) 0)
 
 -- ---- 22 SHAPE: a varnode present or absent against the manual; a non-zero descriptor with space not 1 to 4 or size not 1 to 8;
 -- absent with non-zero offset.
 
 unfoldable pub describesVarnode : (descriptor : ℕ) → Bool
-describesVarnode descriptor = leb 1 (descriptor / 16) && leb (descriptor / 16) 4 && leb 1 (descriptor % 16) && leb (descriptor % 16) 8
+describesVarnode descriptor = leb 1 (descriptor / 16) && leb (descriptor / 16) 4 && isSize (descriptor % 16)
 
 -- `wanted`: the manual has a varnode at this place.
 unfoldable pub breaksShape : (wanted : Bool) (descriptor offset : ℕ) → Bool
@@ -83,22 +84,10 @@ beyond lengths v =
 unfoldable pub breaksRange : Lengths → (opcode place : ℕ) → Varnode → Bool
 breaksRange lengths opcode place v = cond (eqb place 1 && branches opcode) false (beyond lengths v)
 
--- ---- 25 SIZE: the sizes of output, input0 and input1 of operation i, and the address size A
+-- ---- 25 SIZE: the sizes of output, input0 and input1, and the address size A, are not as the opcode's sentence asks.
 
 unfoldable pub breaksSize : (addressSize opcode size size0 size1 : ℕ) → Bool
-breaksSize addressSize opcode size size0 size1 =
-    -- COPY: input0 = output.
-    cond (eqb opcode 1) (not (eqb size0 size))
-    -- Pointer of LOAD and STORE: A.
-    (cond (accesses opcode) (not (eqb size1 addressSize))
-    -- Input0 of BRANCHIND, CALLIND, RETURN: A.
-    (cond (jumps opcode) (not (eqb size0 addressSize))
-    -- Condition: 1.
-    (cond (eqb opcode 5) (not (eqb size1 1))
-    -- Destinations of BRANCH and CALL: free.
-    (cond (branches opcode) false
-    -- the opcodes 10 to 42
-    (not (sizesAgree opcode size size0 size1))))))
+breaksSize addressSize opcode size size0 size1 = not (sizesAgree addressSize opcode size size0 size1)
 
 -- ---- 26 TARGET: a constant destination, read as a signed 64-bit number and added to the operation's index, falls outside 0 to n.
 

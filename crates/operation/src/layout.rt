@@ -3,14 +3,15 @@ ghost use mathlib.Core.Path.{_≡_};
 ghost use Prim.Native.Nat.{_+_, _*_, _<_, _≤_};
 ghost use lib.ListN.{length};
 ghost use Rattle.word.specs.Sum.{digit};
-ghost use Rattle.operation.specs.Layout.{wordsPerOperation, mostInputs, wordAt, headByte, opcodeAt, describedBy, varnodeAt};
+ghost use Rattle.arithmetic.specs.Opcodes.{mostInputs};
+ghost use Rattle.operation.specs.Layout.{wordsPerOperation, operationCount, wordAt, headByte, spareAt, opcodeAt, absent, describedBy, varnodeAt};
+use arithmetic::opcodes::MOST_INPUTS;
 
-// Words to an operation, inputs that one can have, and the last opcode.
-pub const WORDS_PER_OPERATION: usize = 5;
+// Words to an operation: the head, then the offset of the output and those of the inputs.
+pub const WORDS_PER_OPERATION: usize = MOST_INPUTS as usize + 2;
 
-pub const MOST_INPUTS: u8 = 3;
-
-pub const LAST_OPCODE: u64 = 42;
+// Bytes of the head that are used: the opcode, then the descriptor of the output and those of the inputs.
+const HEAD_BYTES: u64 = MOST_INPUTS as u64 + 2;
 
 pub struct Varnode {
     pub space: u64,
@@ -28,6 +29,13 @@ pub struct Lengths {
     pub unique: u64,
     pub register: u64,
     pub ram: u64,
+}
+
+// n, the number of operations of a list; also the index of its end.
+pub fn operation_count(list: &[u64]) -> usize
+    ensures { λ r. ⌜ r ≡ operationCount (now (list .entry)) ⌝ }
+{
+    list.len() / WORDS_PER_OPERATION
 }
 
 // Word k of operation i.
@@ -54,11 +62,31 @@ pub fn head_byte(list: &[u64], i: usize, k: u8) -> u64
     byte(word_at(list, i, 0), k)
 }
 
+// The number that the spare bytes of the head make.
+pub fn spare_at(list: &[u64], i: usize) -> u64
+    requires { ⌜ wordsPerOperation * i < length (now list) ⌝ }
+    ensures { λ r. ⌜ r ≡ spareAt (now (list .entry)) i ⌝ }
+{
+    word_at(list, i, 0) >> (8 * HEAD_BYTES)
+}
+
+// Byte 0 is the opcode.
 pub fn opcode_at(list: &[u64], i: usize) -> u64
     requires { ⌜ wordsPerOperation * i < length (now list) ⌝ }
     ensures { λ r. ⌜ r ≡ opcodeAt (now (list .entry)) i ⌝ }
 {
     head_byte(list, i, 0)
+}
+
+// No varnode.
+pub fn absent() -> Varnode
+    ensures { λ r. ⌜ r ≡ absent ⌝ }
+{
+    Varnode {
+        space: 0,
+        offset: 0,
+        size: 0,
+    }
 }
 
 // A descriptor is space * 16 + size.
@@ -72,7 +100,7 @@ pub(crate) fn described_by(descriptor: u64, offset: u64) -> Varnode
     }
 }
 
-// The varnode at a place of operation i: 0 is the output's place, 1 to 3 are the inputs'.
+// The varnode at a place of operation i: 0 is the output's place, the following are the inputs'.
 pub fn varnode_at(list: &[u64], i: usize, place: u8) -> Varnode
     requires { ⌜ (wordsPerOperation * i + wordsPerOperation ≤ length (now list)) × (place ≤ mostInputs) ⌝ }
     ensures { λ r. ⌜ r ≡ varnodeAt (now (list .entry)) i place ⌝ }

@@ -3,4 +3,3 @@ pub mod decode;
 pub mod layout;
 pub mod report;
 pub mod rules;
-pub mod shape;

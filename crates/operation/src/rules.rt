@@ -4,12 +4,15 @@ ghost use Prim.Native.Nat.{_*_, _<_, _≤_};
 ghost use lib.ListN.{length};
 ghost use Rattle.operation.specs.Layout.{wordsPerOperation};
 ghost use Rattle.operation.specs.Rules.{breaksHead, accesses, branches, jumps, namesSpace, isDestination, breaksPlace, lengthOf, beyond, breaksRange, breaksSize, targetOutside, breaksTarget};
-use super::layout::LAST_OPCODE;
 use super::layout::Lengths;
 use super::layout::Varnode;
-use super::layout::head_byte;
 use super::layout::opcode_at;
+use super::layout::spare_at;
+use arithmetic::opcodes::LAST_OPCODE;
 use arithmetic::operands::sizes_agree;
+use integer::boolean::both;
+use integer::boolean::either;
+use integer::boolean::pick_test;
 use word::size::holds;
 use word::size::within;
 
@@ -18,101 +21,56 @@ pub fn breaks_head(list: &[u64], i: usize) -> bool
     ensures { λ r. ⌜ r ≡ breaksHead (now (list .entry)) i ⌝ }
 {
     let opcode = opcode_at(list, i);
-    if opcode < 1 {
-        return true;
-    }
-    if LAST_OPCODE < opcode {
-        return true;
-    }
-    if head_byte(list, i, 5) != 0 {
-        return true;
-    }
-    if head_byte(list, i, 6) != 0 {
-        return true;
-    }
-    head_byte(list, i, 7) != 0
+    let spare = spare_at(list, i);
+    either(!both(1 <= opcode, opcode <= LAST_OPCODE), spare != 0)
 }
 
 // LOAD, STORE
 pub fn accesses(opcode: u64) -> bool
     ensures { λ r. ⌜ r ≡ accesses opcode ⌝ }
 {
-    if opcode == 2 {
-        return true;
-    }
-    opcode == 3
+    either(opcode == 2, opcode == 3)
 }
 
 // BRANCH, CBRANCH, CALL
 pub fn branches(opcode: u64) -> bool
     ensures { λ r. ⌜ r ≡ branches opcode ⌝ }
 {
-    if opcode == 4 {
-        return true;
-    }
-    if opcode == 5 {
-        return true;
-    }
-    opcode == 7
+    either(opcode == 4, either(opcode == 5, opcode == 7))
 }
 
 // BRANCHIND, CALLIND, RETURN
 pub fn jumps(opcode: u64) -> bool
     ensures { λ r. ⌜ r ≡ jumps opcode ⌝ }
 {
-    if opcode == 6 {
-        return true;
-    }
-    if opcode == 8 {
-        return true;
-    }
-    opcode == 9
+    either(opcode == 6, either(opcode == 8, opcode == 9))
 }
 
 pub fn breaks_place(opcode: u64, place: u8, v: Varnode) -> bool
     ensures { λ r. ⌜ r ≡ breaksPlace opcode place v ⌝ }
 {
-    if place == 0 {
-        return v.space == 1;
-    }
-    if place == 1 {
-        if accesses(opcode) {
-            return !names_space(v);
-        }
-        if branches(opcode) {
-            return !is_destination(v);
-        }
-        return false;
-    }
-    if place == 2 {
-        if opcode == 11 {
-            return v.space != 1;
-        }
-    }
-    false
+    let space = v.space;
+    let destination = pick_test(branches(opcode), !is_destination(v), false);
+    let input0 = pick_test(accesses(opcode), !names_space(v), destination);
+    let input1 = pick_test(opcode == 11, space != 1, false);
+    let inputs = pick_test(place == 1, input0, pick_test(place == 2, input1, false));
+    pick_test(place == 0, space == 1, inputs)
 }
 
 // A constant 2, 3 or 4.
 fn names_space(v: Varnode) -> bool
     ensures { λ r. ⌜ r ≡ namesSpace v ⌝ }
 {
-    if v.space != 1 {
-        return false;
-    }
-    if v.offset < 2 {
-        return false;
-    }
-    v.offset <= 4
+    let offset = v.offset;
+    both(both(v.space == 1, 2 <= offset), offset <= 4)
 }
 
 // In space 1 or 4.
 fn is_destination(v: Varnode) -> bool
     ensures { λ r. ⌜ r ≡ isDestination v ⌝ }
 {
-    if v.space == 1 {
-        return true;
-    }
-    v.space == 4
+    let space = v.space;
+    either(space == 1, space == 4)
 }
 
 pub fn length_of(lengths: Lengths, space: u64) -> u64
@@ -127,50 +85,30 @@ pub fn length_of(lengths: Lengths, space: u64) -> u64
 }
 
 fn beyond(lengths: Lengths, v: Varnode) -> bool
-    requires { ⌜ v .size ≤ 8 ⌝ }
     ensures { λ r. ⌜ r ≡ beyond lengths v ⌝ }
 {
     let space = v.space;
-    if space == 0 {
-        return false;
-    }
-    if space == 1 {
-        return !holds(v.size, v.offset);
-    }
-    !within(v.offset, v.size, length_of(lengths, space))
+    let offset = v.offset;
+    let size = v.size;
+    let outside = !within(offset, size, length_of(lengths, space));
+    let constant = pick_test(space == 1, !holds(size, offset), outside);
+    pick_test(space == 0, false, constant)
 }
 
 pub fn breaks_range(lengths: Lengths, opcode: u64, place: u8, v: Varnode) -> bool
-    requires { ⌜ v .size ≤ 8 ⌝ }
     ensures { λ r. ⌜ r ≡ breaksRange lengths opcode place v ⌝ }
 {
-    if place == 1 {
-        if branches(opcode) {
-            return false;
-        }
-    }
-    beyond(lengths, v)
+    pick_test(
+        both(place == 1, branches(opcode)),
+        false,
+        beyond(lengths, v),
+    )
 }
 
 pub fn breaks_size(address_size: u64, opcode: u64, size: u64, size0: u64, size1: u64) -> bool
     ensures { λ r. ⌜ r ≡ breaksSize «address_size» opcode size size0 size1 ⌝ }
 {
-    if opcode == 1 {
-        return size0 != size;
-    }
-    if accesses(opcode) {
-        return size1 != address_size;
-    }
-    if jumps(opcode) {
-        return size0 != address_size;
-    }
-    if opcode == 5 {
-        return size1 != 1;
-    }
-    if branches(opcode) {
-        return false;
-    }
-    !sizes_agree(opcode, size, size0, size1)
+    !sizes_agree(address_size, opcode, size, size0, size1)
 }
 
 // A target from index i by a signed 64-bit number: forward up to n, or back down to 0.
@@ -188,11 +126,10 @@ pub fn breaks_target(n: u64, i: u64, opcode: u64, v: Varnode) -> bool
     requires { ⌜ i ≤ n ⌝ }
     ensures { λ r. ⌜ r ≡ breaksTarget n i opcode v ⌝ }
 {
-    if !branches(opcode) {
-        return false;
-    }
-    if v.space != 1 {
-        return false;
-    }
-    target_outside(n, i, v.offset)
+    let space = v.space;
+    let offset = v.offset;
+    both(
+        both(branches(opcode), space == 1),
+        target_outside(n, i, offset),
+    )
 }

@@ -12,14 +12,14 @@ use lib.Seq.{length-take-le, getD-append-seam}
 use Rattle.word.specs.Word.{bytesOf}
 use Rattle.integer.specs.Operations.{flag}
 use Rattle.integer.proofs.Booleans.{both, neither}
-use Rattle.arithmetic.specs.Operands.{member}
+use Rattle.arithmetic.specs.Opcodes.{member}
 use Rattle.operation.specs.declared.layout.Varnode.{Varnode}
 use Rattle.operation.specs.declared.report.Report.{Report}
-use Rattle.operation.specs.Layout.{operationCount}
+use Rattle.operation.specs.Layout.{operationCount, absent}
 use Rattle.operation.specs.Rules.{accesses, branches, namesSpace}
 use Rattle.machine.specs.Program.{Program, bigEndian}
 use Rattle.machine.specs.Memory.{Memory, OfBytes, lengthsOf, spaceOf, written, valueAt}
-use Rattle.machine.specs.Effect.{Operation, operationAt, absent, pointee}
+use Rattle.machine.specs.Effect.{Operation, operationAt, pointee}
 use Rattle.machine.specs.Run.{Position, logWord, advanced, ended, continued, run}
 use Rattle.machine.specs.Calls.{Outcome, unlabelled, logAfter, outcomeOf, plainOutcome, labelledOutcome}
 use Rattle.machine.specs.Conditions.{hasSecret, leaks, exceedsSpace, outOfBounds, dividesByZero, writesLog, lowPart, exits, destinationBytes, becomesSecret, labelsAfter, valueWritten, Words}

@@ -14,7 +14,8 @@ use Rattle.operation.specs.declared.layout.Settings.{Settings}
 use Rattle.operation.specs.declared.layout.Varnode.{Varnode}
 use Rattle.machine.specs.Program.{bigEndian}
 use Rattle.machine.specs.Memory.{Memory, spaceOf, bytesAt, valueAt, withSpace, written}
-use Rattle.machine.specs.Effect.{anySecret, absent}
+use Rattle.operation.specs.Layout.{absent}
+use Rattle.machine.specs.Effect.{anySecret}
 use Rattle.machine.specs.Conditions.{hasSecret}
 use Rattle.run_memory.specs.Placed.{Placed}
 

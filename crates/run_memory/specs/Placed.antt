@@ -4,7 +4,7 @@ use mathlib.Core.Path.{_≡_}
 use lib.ListN.{length}
 use Rattle.operation.specs.declared.layout.Varnode.{Varnode}
 use Rattle.machine.specs.Memory.{Memory, spaceOf}
-use Rattle.machine.specs.Effect.{absent}
+use Rattle.operation.specs.Layout.{absent}
 
 -- A space of 1 to 4 and a size of at most 8 bytes, within its space; or an absent varnode.
 pub record Placed (m : Memory) (v : Varnode) : Type 0 where

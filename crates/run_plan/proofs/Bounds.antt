@@ -8,15 +8,15 @@ use borrow.Author.Tests.{eqb-true, eq-eqb, leb-true, not-false}
 use lib.Dec.{eqb, leb}
 use lib.ListN.{length}
 use Rattle.integer.proofs.Booleans.{both, neither, flag-lt}
-use Rattle.arithmetic.specs.Operands.{member}
+use Rattle.arithmetic.specs.Opcodes.{member}
 use Rattle.operation.specs.declared.layout.Varnode.{Varnode}
-use Rattle.operation.specs.Layout.{operationCount, varnodeAt}
+use Rattle.operation.specs.Layout.{operationCount, varnodeAt, absent}
 use Rattle.operation.specs.Rules.{accesses, branches, lengthOf}
 use Rattle.validation.specs.Verdict.{mostBytes}
 use Rattle.validation.specs.WellFormed.{WellFormed}
 use Rattle.machine.specs.Program.{Program}
 use Rattle.machine.specs.Memory.{Memory, OfBytes, lengthsOf, spaceOf}
-use Rattle.machine.specs.Effect.{Operation, operationAt, absent, pointee}
+use Rattle.machine.specs.Effect.{Operation, operationAt, pointee}
 use Rattle.machine.specs.Run.{indexOf}
 use Rattle.machine.specs.Conditions.{exceedsSpace, outOfBounds, dividesByZero, writesLog, taken, lowPart, branchTaken, exits, nextIndex, destinationBytes, Words}
 use Rattle.machine.proofs.Conditions.{Destination, formed, few-operations, when}

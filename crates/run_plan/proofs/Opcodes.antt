@@ -7,10 +7,12 @@ use mathlib.Core.List.{[], _∷_}
 use borrow.Author.Tests.{eqb-false, eq-eqb, ne-eqb}
 use lib.Dec.{eqb}
 use Rattle.integer.proofs.Booleans.{neither}
-use Rattle.arithmetic.specs.Operands.{member, divides}
+use Rattle.arithmetic.specs.Opcodes.{member}
+use Rattle.arithmetic.specs.Operands.{divides}
 use Rattle.operation.specs.declared.layout.Varnode.{Varnode}
 use Rattle.operation.specs.Rules.{accesses, branches, jumps}
-use Rattle.machine.specs.Effect.{Operation, absent}
+use Rattle.operation.specs.Layout.{absent}
+use Rattle.machine.specs.Effect.{Operation}
 use Rattle.machine.proofs.Conditions.{when, no-division}
 
 abbrev pub operation : (opcode : ℕ) (output input0 input1 input2 : Varnode) → Operation

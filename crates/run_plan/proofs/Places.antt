@@ -10,17 +10,17 @@ use lib.Dec.{eqb, leb}
 use lib.ListN.{length}
 use Rattle.word.specs.Word.{Bytes}
 use Rattle.integer.proofs.Booleans.{both}
-use Rattle.arithmetic.specs.Operands.{member, sizesAgree}
+use Rattle.arithmetic.specs.Opcodes.{member, opcodes, rowOf, outputs, hasPlace}
+use Rattle.arithmetic.specs.Operands.{sizesAgree}
 use Rattle.operation.specs.declared.layout.Settings.{Settings}
 use Rattle.operation.specs.declared.layout.Lengths.{Lengths}
-use Rattle.operation.specs.Layout.{wordsPerOperation, operationCount, opcodeAt, varnodeAt}
-use Rattle.operation.specs.Shapes.{shapes, rowOf, outputs, hasPlace}
+use Rattle.operation.specs.Layout.{wordsPerOperation, operationCount, opcodeAt, varnodeAt, absent}
 use Rattle.operation.specs.Rules.{accesses, branches, jumps, namesSpace, breaksPlace, lengthOf, breaksSize}
 use Rattle.operation.proofs.Tables.{data-shape}
 use Rattle.validation.specs.Verdict.{mostOperations, mostBytes, lengthsInRange}
 use Rattle.validation.specs.WellFormed.{WellFormed}
 use Rattle.machine.specs.Memory.{Memory, OfBytes, spaces, lengthsOf, spaceOf, valueAt}
-use Rattle.machine.specs.Effect.{operationAt, absent}
+use Rattle.machine.specs.Effect.{operationAt}
 use Rattle.machine.specs.Conditions.{Words}
 use Rattle.machine.proofs.Conditions.{Destination, Formed, formed}
 use Rattle.machine.proofs.Cases.{either}
@@ -64,7 +64,7 @@ module _ (m : Memory) (addressSize : ℕ) (list : List ℕ) (i : ℕ) (w : WellF
             within = λ l. rw (sym (space-length m (varnodeAt list i place .space))) (w .within place h exempt l);
           }
       by false e =
-          let a : varnodeAt list i place ≡ absent = w .absent place h e in
+          let a : varnodeAt list i place ≡ absent = w .omitted place h e in
           rw a (record { size = omega arith; known = omega arith; nowhere = λ z. refl; within = λ l. absurd (let y : ⊥ = omega arith in y) })
 
   -- rule 23 of LOAD and STORE
@@ -115,7 +115,7 @@ module _ (m : Memory) (addressSize : ℕ) (list : List ℕ) (i : ℕ) (w : WellF
 
   -- the rules 22 and 23 of BRANCH, CBRANCH and CALL
   pub branching : Settings → Words list → OfBytes m → operationCount list < 2 ^ 64 → branches (opcodeAt list i) ≡ true → Branching (operationAt list i)
-  unfolding operationAt branches member hasPlace outputs rowOf shapes
+  unfolding operationAt branches member hasPlace outputs rowOf opcodes
   branching settings words bytes small b =
       let f : Formed settings m i (operationAt list i) = formed settings addressSize list i m words bytes small w in
       record {

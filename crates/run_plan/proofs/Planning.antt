@@ -8,15 +8,16 @@ use borrow.Author.Tests.{eqb-true, eqb-false, eq-eqb, ne-eqb, leb-true, not-true
 use lib.Dec.{eqb, leb}
 use lib.ListN.{length}
 use Rattle.integer.specs.Operations.{flag}
-use Rattle.arithmetic.specs.Operands.{member, divides, Operands}
-use Rattle.arithmetic.specs.Result.{lookup, result}
+use Rattle.arithmetic.specs.Opcodes.{member}
+use Rattle.arithmetic.specs.Operands.{divides, Operands}
+use Rattle.arithmetic.specs.Result.{lookup, integerResults, result}
 use Rattle.operation.specs.declared.layout.Varnode.{Varnode}
 use Rattle.operation.specs.Rules.{accesses, jumps, lengthOf}
 use Rattle.machine.specs.Program.{Program}
 use Rattle.machine.specs.Memory.{Memory, lengthsOf, spaceOf, valueAt}
-use Rattle.machine.specs.Effect.{Operation, absent, pointee}
-use Rattle.machine.specs.Conditions.{exceedsSpace, outOfBounds, dividesByZero, writesLog, taken, lowPart, branchTaken, exits, destination, nextIndex, destinationBytes}
-use Rattle.machine.specs.Conditions.{valueComputed, valueMoved, valueWritten}
+use Rattle.operation.specs.Layout.{absent}
+use Rattle.machine.specs.Effect.{Operation, pointee}
+use Rattle.machine.specs.Conditions.{exceedsSpace, outOfBounds, dividesByZero, writesLog, taken, lowPart, branchTaken, exits, destination, nextIndex, destinationBytes, valueComputed, valueMoved, valueWritten}
 use Rattle.run_memory.specs.Placed.{Placed}
 use Rattle.run_plan.specs.declared.Plan.{Plan}
 use Rattle.run_plan.specs.Plans.{control, stopPlan, lowDue, exitPlan, nextPlan, planned, movePlan, branchPlan, dataPlan, Movable, Branching, Computable}
@@ -122,7 +123,7 @@ module _ (program : Program) (m : Memory) (i a b : ℕ) where
     plans-move h = by-access Moved op (h .opcode) refl refl
 
     pub plans-branch : Branching op → Branched op
-    unfolding branchPlan planned outOfBounds dividesByZero exitPlan destination valueWritten valueComputed result lookup member
+    unfolding branchPlan planned outOfBounds dividesByZero exitPlan destination valueWritten valueComputed result integerResults lookup member
     plans-branch h = by-branch Branched op (h .opcode) (h .noOutput) refl refl refl
 
     pub plans-data : accesses (op .opcode) ≡ false → dataPlan op i a b ≡ planned program m op i a b

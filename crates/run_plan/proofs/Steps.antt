@@ -6,7 +6,7 @@ use mathlib.Core.List.{List, [], _∷_}
 use borrow.Author.Tests.{lt-ltb}
 use lib.Dec.{eqb, ltb}
 use Rattle.word.specs.Word.{bytesOf}
-use Rattle.arithmetic.specs.Operands.{member}
+use Rattle.arithmetic.specs.Opcodes.{member}
 use Rattle.operation.specs.declared.layout.Varnode.{Varnode}
 use Rattle.operation.specs.Layout.{operationCount}
 use Rattle.machine.specs.Program.{Program, bigEndian}
@@ -14,8 +14,7 @@ use Rattle.machine.specs.Memory.{Memory, OfBytes, lengthsOf, written, valueAt}
 use Rattle.machine.specs.Effect.{Operation, operationAt}
 use Rattle.machine.specs.Run.{Position, Stepped, logWord, advanced, ended, stepped}
 use Rattle.machine.specs.Calls.{unlabelled}
-use Rattle.machine.specs.Conditions.{hasSecret, leaks, outOfBounds, dividesByZero, writesLog, logWordOf, exits, destination, nextIndex, destinationBytes, valueWritten}
-use Rattle.machine.specs.Conditions.{positionAfter, exactStepWith, labelsAfter, exactStep, Words}
+use Rattle.machine.specs.Conditions.{hasSecret, leaks, outOfBounds, dividesByZero, writesLog, logWordOf, exits, destination, nextIndex, destinationBytes, valueWritten, positionAfter, exactStepWith, labelsAfter, exactStep, Words}
 use Rattle.machine.proofs.Plain.{nothing-secret, nothing-written}
 use Rattle.machine.proofs.Conditions.{formed, few-operations, meets, one-secret}
 use Rattle.run_plan.specs.declared.Plan.{Plan}

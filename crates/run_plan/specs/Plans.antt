@@ -8,7 +8,8 @@ use Rattle.arithmetic.specs.Operands.{divides, Operands}
 use Rattle.operation.specs.Rules.{accesses, branches, jumps}
 use Rattle.machine.specs.Program.{Program}
 use Rattle.machine.specs.Memory.{Memory}
-use Rattle.machine.specs.Effect.{Operation, absent}
+use Rattle.operation.specs.Layout.{absent}
+use Rattle.machine.specs.Effect.{Operation}
 use Rattle.machine.specs.Conditions.{outOfBounds, dividesByZero, writesLog, lowPart, exits, destination, nextIndex, destinationBytes, valueComputed, valueMoved, valueWritten}
 use Rattle.run_memory.specs.Placed.{Placed}
 use Rattle.run_plan.specs.declared.Plan.{Plan}

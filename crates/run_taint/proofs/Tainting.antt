@@ -7,12 +7,13 @@ use mathlib.Core.List.{List}
 use borrow.Author.Tests.{eqb-true, ne-eqb, lt-leb}
 use lib.Dec.{eqb}
 use Rattle.integer.proofs.Booleans.{or-false, neither}
-use Rattle.arithmetic.specs.Operands.{member, divides}
+use Rattle.arithmetic.specs.Opcodes.{member}
+use Rattle.arithmetic.specs.Operands.{divides}
 use Rattle.operation.specs.declared.layout.Varnode.{Varnode}
-use Rattle.operation.specs.Layout.{operationCount, opcodeAt, varnodeAt}
+use Rattle.operation.specs.Layout.{operationCount, opcodeAt, varnodeAt, absent}
 use Rattle.operation.specs.Rules.{accesses, branches, jumps}
 use Rattle.machine.specs.Memory.{Memory, lengthsOf}
-use Rattle.machine.specs.Effect.{Operation, operationAt, absent, pointee}
+use Rattle.machine.specs.Effect.{Operation, operationAt, pointee}
 use Rattle.machine.specs.Conditions.{hasSecret, leaks, destinationBytes, becomesSecret}
 use Rattle.machine.proofs.Conditions.{absent-public}
 use Rattle.run_memory.specs.Placed.{Placed}

@@ -2,9 +2,9 @@
 ghost use mathlib.Core.Path.{_≡_};
 ghost use Prim.Native.Nat.{_+_, _*_, _≤_, _<_};
 ghost use lib.ListN.{length};
-ghost use Rattle.operation.specs.Layout.{wordsPerOperation, operationCount};
+ghost use Rattle.operation.specs.Layout.{wordsPerOperation, operationCount, absent};
 ghost use Rattle.machine.specs.Memory.{Memory, spaces, lengthsOf};
-ghost use Rattle.machine.specs.Effect.{operationAt, absent, pointee};
+ghost use Rattle.machine.specs.Effect.{operationAt, pointee};
 ghost use Rattle.machine.specs.Conditions.{hasSecret, leaks, destinationBytes, becomesSecret};
 ghost use Rattle.run_memory.specs.Placed.{Placed};
 ghost use Rattle.run_plan.specs.Valid.{Valid};

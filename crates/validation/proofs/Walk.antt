@@ -4,14 +4,15 @@ use mathlib.Core.Bool.{Bool, true, false, cond, not, _&&_, _||_, xor}
 use mathlib.Core.List.{List}
 use mathlib.Core.Path.{_≡_, refl, sym, ap, _∙_}
 use native.Mathlib.Omega.{arith}
-use borrow.Author.Tests.{leb-true, eq-eqb, ne-eqb, eqb-true, ltb-true, ltb-false}
+use borrow.Author.Tests.{leb-true, eq-eqb, ne-eqb, ltb-true, ltb-false}
 use lib.Dec.{eqb, leb, ltb}
+use Rattle.word.specs.Word.{isSize}
 use Rattle.integer.proofs.Booleans.{both, or-true}
 use Rattle.operation.specs.declared.layout.Varnode.{Varnode}
 use Rattle.operation.specs.declared.layout.Lengths.{Lengths}
 use Rattle.operation.specs.declared.decode.Decoded.the-variants.{Accepted, Fault}
 use Rattle.operation.specs.Layout.{operationCount, opcodeAt, describedBy, varnodeAt}
-use Rattle.operation.specs.Rules.{breaksHead, describesVarnode, breaksShape, breaksShapeAt, breaksPlace, breaksRange, breaksSize, breaksTarget}
+use Rattle.operation.specs.Rules.{breaksHead, describesVarnode, breaksShape, breaksShapeAt, breaksPlace, breaksRange}
 use Rattle.operation.specs.Decoding.{decoded}
 use Rattle.validation.specs.Verdict.{firstMalformed, malformed, anyBelow, anyPlace, lowestRule, sizeOrTarget}
 
@@ -149,35 +150,14 @@ passed-shape wanted d o = by wanted (eqb d 0) (describesVarnode d) (eqb o 0)
     by false false g q e = absurd (let z : _≡_ {A = ℕ} 0 1 = cc in omega arith)
 
 pub described : (d : ℕ) → describesVarnode d ≡ true → (1 ≤ d / 16) × (d / 16 ≤ 4) × (1 ≤ d % 16) × (d % 16 ≤ 8)
-unfolding describesVarnode
+unfolding describesVarnode isSize
 described d t =
-    let e = both (leb 1 (d / 16) && leb (d / 16) 4 && leb 1 (d % 16)) (leb (d % 16) 8) t in
-    let f = both (leb 1 (d / 16) && leb (d / 16) 4) (leb 1 (d % 16)) (e .0) in
-    let g = both (leb 1 (d / 16)) (leb (d / 16) 4) (f .0) in
-    (leb-true 1 (d / 16) (g .0), leb-true (d / 16) 4 (g .1), leb-true 1 (d % 16) (f .1), leb-true (d % 16) 8 (e .1))
-
-passed-size : (wanted : Bool) (d o : ℕ) → breaksShape wanted d o ≡ false → describedBy d o .size ≤ 8
-unfolding describedBy
-passed-size wanted d o e = by wanted (passed-shape wanted d o e)
-  where
-    by : (w : Bool) → cond w (describesVarnode d) (eqb d 0 && eqb o 0) ≡ true → d % 16 ≤ 8
-    by true t = described d t .3
-    by false t = let z : d ≡ 0 = eqb-true d 0 (both (eqb d 0) (eqb o 0) t .0) in rw z (omega arith)
-
-pub present-size : (wanted : Bool) (d o : ℕ) (v : Varnode) → decoded wanted d o ≡ Accepted v → v .size ≤ 8
-present-size wanted d o v e = rw (varnode-of wanted d o v e) (passed-size wanted d o (shape-of wanted d o v e))
+    let e = both (leb 1 (d / 16) && leb (d / 16) 4) (leb 1 (d % 16) && leb (d % 16) 8) t in
+    let f = both (leb 1 (d / 16)) (leb (d / 16) 4) (e .0) in
+    let g = both (leb 1 (d % 16)) (leb (d % 16) 8) (e .1) in
+    (leb-true 1 (d / 16) (f .0), leb-true (d / 16) 4 (f .1), leb-true 1 (d % 16) (g .0), leb-true (d % 16) 8 (g .1))
 
 -- ---- rules of equal operations
-
-pub same-sizes : (a : ℕ) {c c′ : ℕ} {u u′ v v′ w w′ : Varnode} → c ≡ c′ → u ≡ u′ → v ≡ v′ → w ≡ w′
-    → breaksSize a c (u .size) (v .size) (w .size) ≡ breaksSize a c′ (u′ .size) (v′ .size) (w′ .size)
-same-sizes a ec eu ev ew = rw (ec, eu, ev, ew)
-
-pub same-target : (i : ℕ) {n n′ c c′ : ℕ} {v v′ : Varnode} → n ≡ n′ → c ≡ c′ → v ≡ v′ → breaksTarget n i c v ≡ breaksTarget n′ i c′ v′
-same-target i en ec ev = rw (en, ec, ev)
-
-pub same-decoding : {w w′ : Bool} {d d′ o o′ : ℕ} → w ≡ w′ → d ≡ d′ → o ≡ o′ → decoded w d o ≡ decoded w′ d′ o′
-same-decoding ew ed eo = rw (ew, ed, eo)
 
 pub same-place : (place : ℕ) {c c′ : ℕ} {v v′ : Varnode} → c ≡ c′ → v ≡ v′ → breaksPlace c place v ≡ breaksPlace c′ place v′
 same-place place ec ev = rw (ec, ev)

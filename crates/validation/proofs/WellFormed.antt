@@ -9,10 +9,10 @@ use lib.Dec.{eqb, leb, ltb}
 use lib.IntN.{ℤ, pos, negsuc}
 use lib.Signed.{ltZ}
 use Rattle.integer.proofs.Booleans.{both, passed, neither}
+use Rattle.arithmetic.specs.Opcodes.{mostInputs, lastOpcode, hasPlace}
 use Rattle.operation.specs.declared.layout.Varnode.{Varnode}
 use Rattle.operation.specs.declared.layout.Lengths.{Lengths}
-use Rattle.operation.specs.Layout.{mostInputs, operationCount, headByte, opcodeAt, descriptorAt, offsetAt, describedBy, varnodeAt}
-use Rattle.operation.specs.Shapes.{hasPlace}
+use Rattle.operation.specs.Layout.{operationCount, spareAt, opcodeAt, absent, descriptorAt, offsetAt, describedBy, varnodeAt}
 use Rattle.operation.specs.Rules.{branches, breaksHead, breaksShapeAt, describesVarnode, breaksPlace, lengthOf, beyond, breaksRange, breaksSize, relativeTarget, targetOutside, breaksTarget}
 use Rattle.validation.specs.Verdict.{settingsInRange, lengthsInRange, firstMalformed, refusalReport, malformed, verdict, anyPlace, lowestRule, sizeOrTarget}
 use Rattle.validation.specs.WellFormed.{WellFormed, VerdictZero}
@@ -36,12 +36,6 @@ none-found f (suc m) i e k l h = by (eqb (f i) 0) refl (λ r. none-found f m (i 
     by false t ih r = absurd (eqb-false (f i) 0 t r)
 
 -- ---- the fields
-
-spare-zero : (a b c : ℕ) → not (eqb a 0 && eqb b 0 && eqb c 0) ≡ false → (a ≡ 0) × (b ≡ 0) × (c ≡ 0)
-spare-zero a b c e =
-    let t = both (eqb a 0 && eqb b 0) (eqb c 0) (not-false _ e) in
-    let u = both (eqb a 0) (eqb b 0) (t .0) in
-    (eqb-true a 0 (u .0), eqb-true b 0 (u .1), eqb-true c 0 (t .1))
 
 -- an integer of 0 to n
 within-list : (n : ℕ) (z : ℤ) → ltZ z (pos 0) || ltZ (pos n) z ≡ false → (t : ℕ) × (t ≤ n) × (z ≡ pos t)
@@ -85,8 +79,8 @@ module _ (list : List ℕ) (i place : ℕ) (e : breaksShapeAt list i place ≡ f
   unfolding varnodeAt describedBy
   is-present h = described (descriptorAt list i place) (rw h at shaped)
 
-  is-absent : hasPlace (opcodeAt list i) place ≡ false → varnodeAt list i place ≡ record { space = 0; offset = 0; size = 0 }
-  unfolding varnodeAt describedBy
+  is-absent : hasPlace (opcodeAt list i) place ≡ false → varnodeAt list i place ≡ absent
+  unfolding varnodeAt describedBy absent
   is-absent h =
       let t = both (eqb (descriptorAt list i place) 0) (eqb (offsetAt list i place) 0) (rw h at shaped) in
       rw (eqb-true (descriptorAt list i place) 0 (t .0), eqb-true (offsetAt list i place) 0 (t .1))
@@ -107,16 +101,16 @@ no-rule-broken a lengths list i e =
     let t4 = passed (anyPlace (λ place. breaksRange lengths (opcodeAt list i) place (varnodeAt list i place))) 24 _ (omega arith) (t3 .1) in
     let t5 = passed (breaksSize a (opcodeAt list i) (varnodeAt list i 0 .size) (varnodeAt list i 1 .size) (varnodeAt list i 2 .size)) 25 _ (omega arith) (t4 .1) in
     let t6 = passed (breaksTarget (operationCount list) i (opcodeAt list i) (varnodeAt list i 1)) 26 0 (omega arith) (t5 .1) in
-    let head = neither (not (leb 1 (opcodeAt list i) && leb (opcodeAt list i) 42)) _ (t1 .0) in
-    let range = both (leb 1 (opcodeAt list i)) (leb (opcodeAt list i) 42) (not-false _ (head .0)) in
+    let head = neither (not (leb 1 (opcodeAt list i) && leb (opcodeAt list i) lastOpcode)) _ (t1 .0) in
+    let range = both (leb 1 (opcodeAt list i)) (leb (opcodeAt list i) lastOpcode) (not-false _ (head .0)) in
     let ranged : (place : ℕ) → place ≤ mostInputs → breaksRange lengths (opcodeAt list i) place (varnodeAt list i place) ≡ false =
-    λ place h. none-at (λ p. breaksRange lengths (opcodeAt list i) p (varnodeAt list i p)) 4 place (omega arith) (t4 .0) in
+    λ place h. none-at (λ p. breaksRange lengths (opcodeAt list i) p (varnodeAt list i p)) (mostInputs + 1) place (omega arith) (t4 .0) in
     record {
-      opcode = (leb-true 1 (opcodeAt list i) (range .0), leb-true (opcodeAt list i) 42 (range .1));
-      spare = spare-zero (headByte list i 5) (headByte list i 6) (headByte list i 7) (head .1);
-      present = λ place h. is-present list i place (none-at (breaksShapeAt list i) 4 place (omega arith) (t2 .0));
-      absent = λ place h. is-absent list i place (none-at (breaksShapeAt list i) 4 place (omega arith) (t2 .0));
-      placed = λ place h. none-at (λ p. breaksPlace (opcodeAt list i) p (varnodeAt list i p)) 4 place (omega arith) (t3 .0);
+      opcode = (leb-true 1 (opcodeAt list i) (range .0), leb-true (opcodeAt list i) lastOpcode (range .1));
+      spare = eqb-true (spareAt list i) 0 (not-false _ (head .1));
+      present = λ place h. is-present list i place (none-at (breaksShapeAt list i) (mostInputs + 1) place (omega arith) (t2 .0));
+      omitted = λ place h. is-absent list i place (none-at (breaksShapeAt list i) (mostInputs + 1) place (omega arith) (t2 .0));
+      placed = λ place h. none-at (λ p. breaksPlace (opcodeAt list i) p (varnodeAt list i p)) (mostInputs + 1) place (omega arith) (t3 .0);
       within = λ place h x. in-space lengths (opcodeAt list i) place (varnodeAt list i place) x (ranged place h);
       constant = λ place h x. in-constant lengths (opcodeAt list i) place (varnodeAt list i place) x (ranged place h);
       sized = t5 .0;

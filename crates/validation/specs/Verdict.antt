@@ -4,23 +4,26 @@ use mathlib.Core.Bool.{Bool, false, cond, not, _&&_, _||_}
 use mathlib.Core.List.{List}
 use lib.Dec.{eqb, leb}
 use lib.ListN.{length}
+use Rattle.word.specs.Word.{isSize}
+use Rattle.arithmetic.specs.Opcodes.{mostInputs}
 use Rattle.operation.specs.declared.layout.Settings.{Settings}
 use Rattle.operation.specs.declared.layout.Lengths.{Lengths}
 use Rattle.validation.specs.declared.Malformed.{Malformed}
 use Rattle.operation.specs.declared.report.Report.{Report}
-use Rattle.operation.specs.Layout.{wordsPerOperation, mostInputs, operationCount, opcodeAt, varnodeAt}
+use Rattle.operation.specs.Layout.{wordsPerOperation, operationCount, opcodeAt, varnodeAt}
 use Rattle.operation.specs.Rules.{breaksHead, breaksShapeAt, breaksPlace, breaksRange, breaksSize, breaksTarget}
 
--- Operations in a list, and bytes of a space, at most.
+-- Operations in a list, at most.
 abbrev pub mostOperations : ℕ
 mostOperations = 4096
 
+-- Bytes of a space, at most.
 abbrev pub mostBytes : ℕ
 mostBytes = 65536
 
 -- 10 SETTING: byte order or A out of range.
 unfoldable pub settingsInRange : Settings → Bool
-settingsInRange settings = leb (settings .order) 1 && leb 1 (settings .«address_size») && leb (settings .«address_size») 8
+settingsInRange settings = leb (settings .order) 1 && isSize (settings .«address_size»)
 
 -- 11 LENGTH: word count not a multiple of 5, over 4,096 operations, a space over 65,536.
 unfoldable pub lengthsInRange : Lengths → List ℕ → Bool
@@ -63,9 +66,11 @@ firstMalformed rule (suc m) i = cond (eqb (rule i) 0) (firstMalformed rule m (i 
 unfoldable pub refusalReport : (ending index : ℕ) → Report
 refusalReport ending index = record { ending = ending; index = index; executed = 0; logged = 0; value = 0 }
 
+-- The first malformed operation of a list.
 unfoldable pub malformed : (addressSize : ℕ) → Lengths → List ℕ → Malformed
 malformed addressSize lengths list = firstMalformed (lowestRule addressSize lengths list) (operationCount list) 0
 
+-- The verdict: 10, 11, the rule and index of the first malformed operation, or 0 and the number of operations.
 unfoldable pub verdict : Settings → Lengths → List ℕ → Report
 verdict settings lengths list =
     cond (not (settingsInRange settings)) (refusalReport 10 0)

@@ -4,23 +4,23 @@ use mathlib.Core.Bool.{true, false}
 use mathlib.Core.List.{List}
 use mathlib.Core.Path.{_≡_}
 use lib.IntN.{pos}
+use Rattle.arithmetic.specs.Opcodes.{mostInputs, lastOpcode, hasPlace}
 use Rattle.operation.specs.declared.layout.Settings.{Settings}
 use Rattle.operation.specs.declared.layout.Lengths.{Lengths}
-use Rattle.operation.specs.Layout.{lastOpcode, mostInputs, operationCount, headByte, opcodeAt, varnodeAt}
-use Rattle.operation.specs.Shapes.{hasPlace}
+use Rattle.operation.specs.Layout.{operationCount, spareAt, opcodeAt, absent, varnodeAt}
 use Rattle.operation.specs.Rules.{branches, breaksPlace, lengthOf, breaksSize, relativeTarget}
 use Rattle.validation.specs.Verdict.{settingsInRange, lengthsInRange, verdict}
 
+-- What the rules say of operation i.
 pub record WellFormed (addressSize : ℕ) (lengths : Lengths) (list : List ℕ) (i : ℕ) : Type 0 where
-  -- 21: an opcode of 1 to 42, and no spare byte that is not zero
+  -- 21: an opcode, and no spare byte that is not zero
   pub opcode : (1 ≤ opcodeAt list i) × (opcodeAt list i ≤ lastOpcode)
-  pub spare : (headByte list i 5 ≡ 0) × (headByte list i 6 ≡ 0) × (headByte list i 7 ≡ 0)
+  pub spare : spareAt list i ≡ 0
   -- 22: a varnode that the manual has is in a space of 1 to 4, with a size of 1 to 8; any other is absent, with offset 0
   pub present : (place : ℕ) → place ≤ mostInputs → hasPlace (opcodeAt list i) place ≡ true
       → (1 ≤ varnodeAt list i place .space) × (varnodeAt list i place .space ≤ 4)
       × (1 ≤ varnodeAt list i place .size) × (varnodeAt list i place .size ≤ 8)
-  pub absent : (place : ℕ) → place ≤ mostInputs → hasPlace (opcodeAt list i) place ≡ false
-      → varnodeAt list i place ≡ record { space = 0; offset = 0; size = 0 }
+  pub omitted : (place : ℕ) → place ≤ mostInputs → hasPlace (opcodeAt list i) place ≡ false → varnodeAt list i place ≡ absent
   -- 23: every varnode is where it has to be
   pub placed : (place : ℕ) → place ≤ mostInputs → breaksPlace (opcodeAt list i) place (varnodeAt list i place) ≡ false
   -- 24: a varnode of space 2 to 4 is within its space, and a constant below 256^size, but for branch destinations

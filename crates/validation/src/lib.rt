@@ -1,28 +1,28 @@
 // Paper 01's judge: the verdict on a list of operations.
 ghost use mathlib.Core.Path.{_≡_};
-ghost use Prim.Native.Nat.{_+_, _*_, _≤_, _<_};
+ghost use Prim.Native.Nat.{_+_, _*_, _≤_};
 ghost use lib.ListN.{length};
-ghost use Rattle.operation.specs.Layout.{wordsPerOperation, mostInputs, operationCount};
-ghost use Rattle.operation.specs.Decoding.{decodedAt};
+ghost use Rattle.operation.specs.Layout.{wordsPerOperation};
 ghost use Rattle.validation.specs.Verdict.{settingsInRange, lengthsInRange, sizeOrTarget, malformed, verdict, refusalReport};
+use arithmetic::opcodes::MOST_INPUTS;
+use integer::boolean::both;
 use integer::boolean::either;
+use integer::boolean::pick;
 use operation::decode::Decoded;
-use operation::decode::decode;
+use operation::decode::decode_at;
 use operation::layout::Lengths;
-use operation::layout::MOST_INPUTS;
 use operation::layout::Settings;
 use operation::layout::WORDS_PER_OPERATION;
-use operation::layout::head_byte;
 use operation::layout::opcode_at;
+use operation::layout::operation_count;
 use operation::layout::varnode_at;
-use operation::layout::word_at;
 use operation::report::Report;
 use operation::rules::breaks_head;
 use operation::rules::breaks_place;
 use operation::rules::breaks_range;
 use operation::rules::breaks_size;
 use operation::rules::breaks_target;
-use operation::shape::has_place;
+use word::size::is_size;
 
 // Operations in a list, and bytes of a space, at most.
 const MOST_OPERATIONS: usize = 4096;
@@ -62,46 +62,26 @@ pub fn refusal_report(ending: u64, index: u64) -> Report
     }
 }
 
+// 10 SETTING: byte order or A out of range.
 pub fn settings_in_range(settings: Settings) -> bool
     ensures { λ r. ⌜ r ≡ settingsInRange settings ⌝ }
 {
     let order = settings.order;
     let address_size = settings.address_size;
-    if 1 < order {
-        return false;
-    }
-    if address_size < 1 {
-        return false;
-    }
-    address_size <= 8
+    both(order <= 1, is_size(address_size))
 }
 
+// 11 LENGTH: word count not a multiple of an operation's, too many operations, a space too long.
 pub fn lengths_in_range(lengths: Lengths, list: &[u64]) -> bool
     ensures { λ r. ⌜ r ≡ lengthsInRange lengths (now (list .entry)) ⌝ }
 {
     let unique = lengths.unique;
     let register = lengths.register;
     let ram = lengths.ram;
-    if list.len() % WORDS_PER_OPERATION != 0 {
-        return false;
-    }
-    if MOST_OPERATIONS < operation_count(list) {
-        return false;
-    }
-    if MOST_BYTES < unique {
-        return false;
-    }
-    if MOST_BYTES < register {
-        return false;
-    }
-    ram <= MOST_BYTES
-}
-
-// n, the number of operations of a list; also the index of its end.
-pub fn operation_count(list: &[u64]) -> usize
-    ensures { λ r. ⌜ r ≡ operationCount (now (list .entry)) ⌝ }
-{
-    list.len() / WORDS_PER_OPERATION
+    let whole = list.len() % WORDS_PER_OPERATION == 0;
+    let listed = both(whole, operation_count(list) <= MOST_OPERATIONS);
+    let two = both(both(listed, unique <= MOST_BYTES), register <= MOST_BYTES);
+    both(two, ram <= MOST_BYTES)
 }
 
 // The first operation in list order that breaks a rule, with the lowest rule that it breaks. Rule 22 is left at once, since no later
@@ -150,19 +130,6 @@ pub fn first_malformed(address_size: u64, lengths: Lengths, list: &[u64]) -> Mal
     }
 }
 
-// The varnode at a place of operation i, or the fault that its shape is.
-fn decode_at(list: &[u64], i: usize, place: u8) -> Decoded
-    requires { ⌜ (wordsPerOperation * i + wordsPerOperation ≤ length (now list)) × (place ≤ mostInputs) ⌝ }
-    ensures { λ r. ⌜ r ≡ decodedAt (now (list .entry)) i place ⌝ }
-{
-    let wanted = has_place(opcode_at(list, i), place);
-    decode(
-        wanted,
-        head_byte(list, i, place + 1),
-        word_at(list, i, place as usize + 1),
-    )
-}
-
 // 25 or 26, the rules on the operation as a whole, or 0.
 fn size_or_target(address_size: u64, list: &[u64], i: usize) -> u64
     requires { ⌜ wordsPerOperation * i + wordsPerOperation ≤ length (now list) ⌝ }
@@ -172,12 +139,11 @@ fn size_or_target(address_size: u64, list: &[u64], i: usize) -> u64
     let output = varnode_at(list, i, 0);
     let input0 = varnode_at(list, i, 1);
     let input1 = varnode_at(list, i, 2);
-    if breaks_size(address_size, opcode, output.size, input0.size, input1.size) {
-        return 25;
-    }
-    let count = operation_count(list);
-    if breaks_target(count as u64, i as u64, opcode, input0) {
-        return 26;
-    }
-    0
+    let count = operation_count(list) as u64;
+    let target = pick(breaks_target(count, i as u64, opcode, input0), 26, 0);
+    pick(
+        breaks_size(address_size, opcode, output.size, input0.size, input1.size),
+        25,
+        target,
+    )
 }

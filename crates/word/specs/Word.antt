@@ -1,9 +1,14 @@
 -- The value of some bytes, and the bytes of a value. The byte order is false for little, true for big.
 use Prim.Native.Nat.{ℕ, _+_, _*_, _^_, _-_, _<_}
-use mathlib.Core.Bool.{Bool, true, false}
+use mathlib.Core.Bool.{Bool, true, false, _&&_}
 use mathlib.Core.List.{List}
+use lib.Dec.{leb}
 use lib.ListN.{length, getD}
 use Rattle.word.specs.Sum.{sum, tabulate, digit}
+
+-- The size of a varnode or an address: 1 to 8 bytes.
+unfoldable pub isSize : (size : ℕ) → Bool
+isSize size = leb 1 size && leb size 8
 
 -- Every entry is a byte.
 abbrev pub Bytes : List ℕ → Type 0

@@ -2,6 +2,7 @@
 ghost use mathlib.Core.Path.{_≡_};
 ghost use Prim.Native.Nat.{_+_, _-_, _%_, _^_, _<_, _≤_};
 ghost use lib.Dec.{leb, ltb};
+ghost use Rattle.word.specs.Word.{isSize};
 
 // 256^size
 fn modulus(size: u64) -> u64
@@ -27,15 +28,24 @@ pub fn largest(size: u64) -> u64
     u64::MAX >> (64 - 8 * size)
 }
 
-// A number is below 256^size; of size 0 that is 0 alone.
+// A number is below 256^size; every word is, from 8 bytes on.
 pub fn holds(size: u64, x: u64) -> bool
-    requires { ⌜ size ≤ 8 ⌝ }
     ensures { λ r. ⌜ r ≡ ltb x (256 ^ size) ⌝ }
 {
-    if size == 0 {
-        return x == 0;
+    if 8 <= size {
+        return true;
     }
-    x <= largest(size)
+    x < modulus(size)
+}
+
+// A size of 1 to 8 bytes.
+pub fn is_size(size: u64) -> bool
+    ensures { λ r. ⌜ r ≡ isSize size ⌝ }
+{
+    if size < 1 {
+        return false;
+    }
+    size <= 8
 }
 
 // The `size` bytes at `offset` lie within a space of `length` bytes. The sum of the two could wrap, so it is not made.

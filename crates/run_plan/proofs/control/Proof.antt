@@ -1,6 +1,6 @@
 -- `run_plan::control` meets its contract.
 use mathlib.Core.Path.{refl}
-use Rattle.machine.specs.Effect.{absent}
+use Rattle.operation.specs.Layout.{absent}
 use Rattle.run_plan.specs.Plans.{control}
 use Rattle.run_plan.proofs.control.Statement.{statement}
 use Rattle.run_plan.proofs.control.Tie as tie

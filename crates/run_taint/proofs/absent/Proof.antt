@@ -1,6 +1,6 @@
 -- `run_taint::absent` meets its contract.
 use mathlib.Core.Path.{refl}
-use Rattle.machine.specs.Effect.{absent}
+use Rattle.operation.specs.Layout.{absent}
 use Rattle.run_taint.proofs.absent.Statement.{statement}
 use Rattle.run_taint.proofs.absent.Tie as tie
 

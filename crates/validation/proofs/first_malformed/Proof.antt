@@ -4,7 +4,7 @@ use mathlib.Core.Bool.{false}
 use mathlib.Core.Path.{_≡_, refl, sym, _∙_}
 use native.Mathlib.Omega.{arith}
 use borrow.Author.Needs.{needs}
-use Rattle.validation.proofs.Walk.{first-start, first-skip, left-at-end, left-at, any-none, any-grows, at-head, at-shape, at-place, at-range, at-last, fault-of, shape-of, varnode-of, present-size, same-place, same-range}
+use Rattle.validation.proofs.Walk.{first-start, first-skip, left-at-end, left-at, any-none, any-grows, at-head, at-shape, at-place, at-range, at-last, fault-of, shape-of, varnode-of, same-place, same-range}
 use Rattle.operation.specs.Layout.{operationCount, opcodeAt, varnodeAt}
 use Rattle.operation.specs.Decoding.{decodedAt}
 use Rattle.operation.specs.Rules.{breaksShapeAt, breaksPlace, breaksRange}
@@ -64,8 +64,7 @@ either-requires : tie.Need-either-requires Inv-loop μ-loop Inv-operations μ-op
 either-requires c κs = search needs
 
 breaks-range-requires : tie.Need-breaks-range-requires Inv-loop μ-loop Inv-operations μ-operations
-unfolding decodedAt
-breaks-range-requires c κs = present-size _ _ _ _ (sym (c .before .before .before .before .before .decode-at .ensures) ∙ c .before .before .before .v .given .1)
+breaks-range-requires c κs = search needs
 
 either-requires-2 : tie.Need-either-requires-2 Inv-loop μ-loop Inv-operations μ-operations
 either-requires-2 c κs = search needs

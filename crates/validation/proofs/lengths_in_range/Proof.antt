@@ -1,33 +1,39 @@
 -- `validation::lengths_in_range` meets its contract.
-use mathlib.Core.Path.{sym}
+use mathlib.Core.Path.{refl}
 use borrow.Author.Needs.{needs}
-use borrow.Author.Tests.{le-leb, lt-leb, eq-eqb, ne-eqb}
 use Rattle.validation.specs.Verdict.{lengthsInRange}
 use Rattle.validation.proofs.lengths_in_range.Statement.{statement}
 use Rattle.validation.proofs.lengths_in_range.Tie as tie
 
-returns : tie.Need-returns
-unfolding lengthsInRange
-returns c = rw (ne-eqb _ 0 (c .if1 .taken))
-
 operation-count-requires : tie.Need-operation-count-requires
 operation-count-requires c κs = search needs
 
-returns-2 : tie.Need-returns-2
-unfolding lengthsInRange
-returns-2 c = rw (eq-eqb _ 0 (c .before .before .if1 .left), sym (c .before .operation-count .ensures), lt-leb _ 4096 (c .if2 .taken))
+both-requires : tie.Need-both-requires
+both-requires c κs = search needs
 
-returns-3 : tie.Need-returns-3
-unfolding lengthsInRange
-returns-3 c = rw (eq-eqb _ 0 (c .before .before .before .if1 .left), sym (c .before .before .operation-count .ensures), le-leb _ 4096 (c .before .if2 .left), lt-leb _ 65536 (c .if3 .taken))
+both-requires-2 : tie.Need-both-requires-2
+both-requires-2 c κs = search needs
 
-returns-4 : tie.Need-returns-4
-unfolding lengthsInRange
-returns-4 c = rw (eq-eqb _ 0 (c .before .before .before .before .if1 .left), sym (c .before .before .before .operation-count .ensures), le-leb _ 4096 (c .before .before .if2 .left), le-leb _ 65536 (c .before .if3 .left), lt-leb _ 65536 (c .if4 .taken))
+both-requires-3 : tie.Need-both-requires-3
+both-requires-3 c κs = search needs
 
-returns-5 : tie.Need-returns-5
+both-requires-4 : tie.Need-both-requires-4
+both-requires-4 c κs = search needs
+
+returns : tie.Need-returns
 unfolding lengthsInRange
-returns-5 c = rw (eq-eqb _ 0 (c .before .before .before .before .if1 .left), sym (c .before .before .before .operation-count .ensures), le-leb _ 4096 (c .before .before .if2 .left), le-leb _ 65536 (c .before .if3 .left), le-leb _ 65536 (c .if4 .left))
+returns c =
+    let at-two = c .before in
+    let at-listed = at-two .before .before in
+    rw (c .both4 .ensures, at-two .both3 .ensures, at-two .before .both2 .ensures, at-listed .both .ensures, at-listed .before .operation-count .ensures) refl
 
 pub lengths-in-range-spec : {M : Type 1} → statement M
-lengths-in-range-spec = tie.close (tie.spec returns operation-count-requires returns-2 returns-3 returns-4 returns-5)
+lengths-in-range-spec =
+    tie.close
+    (tie.spec
+    operation-count-requires
+    both-requires
+    both-requires-2
+    both-requires-3
+    both-requires-4
+    returns)

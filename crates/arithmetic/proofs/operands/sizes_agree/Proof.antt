@@ -1,209 +1,110 @@
--- `arithmetic::operands::sizes_agree` meets its contract.
-use Prim.Native.Nat.{ℕ}
-use mathlib.Core.Path.{_≡_, refl, _∙_}
-use mathlib.Core.Bool.{Bool, false}
+-- `arithmetic::operands::sizes_agree` meets its contract: each line is a sentence of rule 25.
+use mathlib.Core.Path.{refl, _∙_}
 use borrow.Author.Needs.{needs}
-use borrow.Author.Tests.{eq-eqb, ne-eqb}
-use Rattle.arithmetic.proofs.Agreement.{sizeKept, sizesEqual, comparisons, extensions, booleans, kept-set, equal-set, compared-set, extended-set, boolean-set, free-set, tested}
-use Rattle.arithmetic.specs.Operands.{member, sizesAgree}
+use Rattle.arithmetic.specs.Opcodes.{sizesOf}
+use Rattle.arithmetic.specs.Operands.{sizesAgree}
+use Rattle.arithmetic.proofs.Table.{kept-set, equal-set, compared-set, extended-set, boolean-set, negated-set, joined-set, pointer-set, indirect-set, condition-set, free-set}
+use Rattle.integer.proofs.Booleans.{pick-is}
+use Rattle.arithmetic.proofs.Agreement.{by-sentence}
 use Rattle.arithmetic.proofs.operands.sizes_agree.Statement.{statement}
 use Rattle.arithmetic.proofs.operands.sizes_agree.Tie as tie
-use Rattle.arithmetic.proofs.operands.sizes_agree.Reads as reads
-use Rattle.arithmetic.proofs.operands.sizes_agree.Lts as lts
-use Rattle.arithmetic.proofs.operands.has_bit.Reads as has-bit-reads
-use Rattle.integer.proofs.boolean.both.Reads as both-reads
-use Rattle.arithmetic.proofs.operands.is_unary.Reads as is-unary-reads
-use Rattle.integer.proofs.boolean.either.Reads as either-reads
-use Rattle.arithmetic.proofs.operands.add_up.Reads as add-up-reads
 
-abbrev calls : lts.Claims
-calls = (
-  has-bit-reads.Asked,
-  has-bit-reads.Learnt,
-  both-reads.Asked,
-  both-reads.Learnt,
-  is-unary-reads.Asked,
-  is-unary-reads.Learnt,
-  either-reads.Asked,
-  either-reads.Learnt,
-  add-up-reads.Asked,
-  add-up-reads.Learnt,
-)
+sentence-requires : tie.Need-sentence-requires
+sentence-requires c κs = search needs
 
--- ---- the opcode, at each test
+sentence-requires-2 : tie.Need-sentence-requires-2
+sentence-requires-2 c κs = search needs
 
-abbrev opcode1 : lts.After-has-bit calls reads.Pre reads.Post → ℕ
-opcode1 c = c .before .args .opcode
+sentence-requires-3 : tie.Need-sentence-requires-3
+sentence-requires-3 c κs = search needs
 
-abbrev opcode2 : lts.After-has-bit2 calls reads.Pre reads.Post → ℕ
-opcode2 c = opcode1 (c .before .before)
-
-abbrev opcode3 : lts.After-has-bit3 calls reads.Pre reads.Post → ℕ
-opcode3 c = opcode2 (c .before .before)
-
-abbrev opcode4 : lts.After-has-bit4 calls reads.Pre reads.Post → ℕ
-opcode4 c = opcode3 (c .before .before)
-
-abbrev opcode5 : lts.After-has-bit5 calls reads.Pre reads.Post → ℕ
-opcode5 c = opcode4 (c .before .before)
-
--- ---- what each test says of the opcode
-
-is-kept : (c : lts.After-has-bit calls reads.Pre reads.Post) {t : Bool} → c .has-bit .result ≡ t → member (opcode1 c) sizeKept ≡ t
-is-kept c h = tested (c .has-bit .ensures) (kept-set _) h
-
-is-equal : (c : lts.After-has-bit2 calls reads.Pre reads.Post) {t : Bool} → c .has-bit2 .result ≡ t → member (opcode2 c) sizesEqual ≡ t
-is-equal c h = tested (c .has-bit2 .ensures) (equal-set _) h
-
-is-compared : (c : lts.After-has-bit3 calls reads.Pre reads.Post) {t : Bool} → c .has-bit3 .result ≡ t → member (opcode3 c) comparisons ≡ t
-is-compared c h = tested (c .has-bit3 .ensures) (compared-set _) h
-
-is-extended : (c : lts.After-has-bit4 calls reads.Pre reads.Post) {t : Bool} → c .has-bit4 .result ≡ t → member (opcode4 c) extensions ≡ t
-is-extended c h = tested (c .has-bit4 .ensures) (extended-set _) h
-
-is-boolean : (c : lts.After-has-bit5 calls reads.Pre reads.Post) {t : Bool} → c .has-bit5 .result ≡ t → member (opcode5 c) booleans ≡ t
-is-boolean c h = tested (c .has-bit5 .ensures) (boolean-set _) h
-
--- ---- and those that were passed
-
-not-kept : (c : lts.Else1 calls reads.Pre reads.Post) → member (opcode1 (c .before)) sizeKept ≡ false
-not-kept c = is-kept (c .before) (c .if1 .left)
-
-not-equal : (c : lts.Else2 calls reads.Pre reads.Post) → member (opcode2 (c .before)) sizesEqual ≡ false
-not-equal c = is-equal (c .before) (c .if2 .left)
-
-not-compared : (c : lts.Else3 calls reads.Pre reads.Post) → member (opcode3 (c .before)) comparisons ≡ false
-not-compared c = is-compared (c .before) (c .if3 .left)
-
-not-extended : (c : lts.Else4 calls reads.Pre reads.Post) → member (opcode4 (c .before)) extensions ≡ false
-not-extended c = is-extended (c .before) (c .if4 .left)
-
-not-boolean : (c : lts.Else5 calls reads.Pre reads.Post) → member (opcode5 (c .before)) booleans ≡ false
-not-boolean c = is-boolean (c .before) (c .if5 .left)
-
--- ---- what the function needs
-
-has-bit-requires : tie.Need-has-bit-requires
-has-bit-requires c κs = search needs
-
-has-bit-requires-2 : tie.Need-has-bit-requires-2
-has-bit-requires-2 c κs = search needs
-
-both-requires : tie.Need-both-requires
-both-requires c κs = search needs
-
-has-bit-requires-3 : tie.Need-has-bit-requires-3
-has-bit-requires-3 c κs = search needs
-
-both-requires-2 : tie.Need-both-requires-2
-both-requires-2 c κs = search needs
-
-has-bit-requires-4 : tie.Need-has-bit-requires-4
-has-bit-requires-4 c κs = search needs
-
-has-bit-requires-5 : tie.Need-has-bit-requires-5
-has-bit-requires-5 c κs = search needs
-
-is-unary-requires : tie.Need-is-unary-requires
-is-unary-requires c κs = search needs
-
-either-requires : tie.Need-either-requires
-either-requires c κs = search needs
-
-both-requires-3 : tie.Need-both-requires-3
-both-requires-3 c κs = search needs
-
-both-requires-4 : tie.Need-both-requires-4
-both-requires-4 c κs = search needs
+sentence-requires-4 : tie.Need-sentence-requires-4
+sentence-requires-4 c κs = search needs
 
 add-up-requires : tie.Need-add-up-requires
 add-up-requires c κs = search needs
 
-has-bit-requires-6 : tie.Need-has-bit-requires-6
-has-bit-requires-6 c κs = search needs
+sentence-requires-5 : tie.Need-sentence-requires-5
+sentence-requires-5 c κs = search needs
+
+both-requires : tie.Need-both-requires
+both-requires c κs = search needs
+
+sentence-requires-6 : tie.Need-sentence-requires-6
+sentence-requires-6 c κs = search needs
+
+both-requires-2 : tie.Need-both-requires-2
+both-requires-2 c κs = search needs
+
+both-requires-3 : tie.Need-both-requires-3
+both-requires-3 c κs = search needs
+
+sentence-requires-7 : tie.Need-sentence-requires-7
+sentence-requires-7 c κs = search needs
+
+sentence-requires-8 : tie.Need-sentence-requires-8
+sentence-requires-8 c κs = search needs
+
+both-requires-4 : tie.Need-both-requires-4
+both-requires-4 c κs = search needs
+
+sentence-requires-9 : tie.Need-sentence-requires-9
+sentence-requires-9 c κs = search needs
+
+both-requires-5 : tie.Need-both-requires-5
+both-requires-5 c κs = search needs
+
+sentence-requires-10 : tie.Need-sentence-requires-10
+sentence-requires-10 c κs = search needs
+
+sentence-requires-11 : tie.Need-sentence-requires-11
+sentence-requires-11 c κs = search needs
 
 returns : tie.Need-returns
 unfolding sizesAgree
-returns c = rw (is-kept (c .before) (c .if1 .taken)) refl
-
-returns-2 : tie.Need-returns-2
-unfolding sizesAgree
-returns-2 c =
-    let found = c .before in
-    let past1 = found .before .before in
-    c .both .ensures ∙ rw (not-kept past1, is-equal (found .before) (found .if2 .taken)) refl
-
-returns-3 : tie.Need-returns-3
-unfolding sizesAgree
-returns-3 c =
-    let found = c .before in
-    let past2 = found .before .before in
-    let past1 = past2 .before .before in
-    c .both2 .ensures ∙ rw (not-kept past1, not-equal past2, is-compared (found .before) (found .if3 .taken)) refl
-
-returns-4 : tie.Need-returns-4
-unfolding sizesAgree
-returns-4 c =
-    let past3 = c .before .before in
-    let past2 = past3 .before .before in
-    let past1 = past2 .before .before in
-    rw (not-kept past1, not-equal past2, not-compared past3, is-extended (c .before) (c .if4 .taken)) refl
-
-returns-5 : tie.Need-returns-5
-unfolding sizesAgree
-returns-5 c =
-    let found = c .before .before .before .before in
-    let past4 = found .before .before in
-    let past3 = past4 .before .before in
-    let past2 = past3 .before .before in
-    let past1 = past2 .before .before in
-    c .both4 .ensures
-    ∙ rw (c .before .both3 .ensures, c .before .before .either .ensures, c .before .before .before .is-unary .ensures)
-    (rw (not-kept past1, not-equal past2, not-compared past3, not-extended past4, is-boolean (found .before) (found .if5 .taken)) refl)
-
-returns-6 : tie.Need-returns-6
-unfolding sizesAgree member
-returns-6 c =
-    let past5 = c .before .before in
-    let past4 = past5 .before .before in
-    let past3 = past4 .before .before in
-    let past2 = past3 .before .before in
-    let past1 = past2 .before .before in
-    c .add-up .ensures
-    ∙ rw (not-kept past1, not-equal past2, not-compared past3, not-extended past4, not-boolean past5, eq-eqb _ 10 (c .before .if6 .taken)) refl
-
-returns-7 : tie.Need-returns-7
-unfolding sizesAgree member
-returns-7 c =
-    let past5 = c .before .before in
-    let past4 = past5 .before .before in
-    let past3 = past4 .before .before in
-    let past2 = past3 .before .before in
-    let past1 = past2 .before .before in
-    c .has-bit6 .ensures ∙ free-set _
-    ∙ rw (not-kept past1, not-equal past2, not-compared past3, not-extended past4, not-boolean past5, ne-eqb _ 10 (c .before .if6 .left)) refl
+returns c =
+    let at-equal = c .before in
+    let at-compared = at-equal .before .before in
+    let at-extended = at-compared .before .before in
+    let at-boolean = at-extended .before in
+    let at-negated = at-boolean .before .before .before in
+    let at-joined = at-negated .before .before in
+    let at-pointer = at-joined .before .before in
+    let at-indirect = at-pointer .before in
+    let at-condition = at-indirect .before in
+    let at-free = at-condition .before in
+    pick-is (c .sentence11 .ensures) (kept-set _) refl
+    (pick-is (at-equal .sentence10 .ensures) (equal-set _) (at-equal .before .both5 .ensures)
+    (pick-is (at-compared .sentence9 .ensures) (compared-set _) (at-compared .before .both4 .ensures)
+    (pick-is (at-extended .sentence8 .ensures) (extended-set _) refl
+    (pick-is (at-boolean .sentence7 .ensures) (boolean-set _) (at-boolean .before .both3 .ensures ∙ rw (at-boolean .before .before .both2 .ensures) refl)
+    (pick-is (at-negated .sentence6 .ensures) (negated-set _) (at-negated .before .both .ensures)
+    (pick-is (at-joined .sentence5 .ensures) (joined-set _) (at-joined .before .add-up .ensures)
+    (pick-is (at-pointer .sentence4 .ensures) (pointer-set _) refl
+    (pick-is (at-indirect .sentence3 .ensures) (indirect-set _) refl
+    (pick-is (at-condition .sentence2 .ensures) (condition-set _) refl
+    (pick-is (at-free .sentence .ensures) (free-set _) refl refl))))))))))
+    ∙ by-sentence (sizesOf (at-free .before .args .opcode)) _ _ _ _
 
 pub sizes-agree-spec : {M : Type 1} → statement M
 sizes-agree-spec =
     tie.close
     (tie.spec
-    has-bit-requires
-    has-bit-requires-2
-    both-requires
-    has-bit-requires-3
-    both-requires-2
-    has-bit-requires-4
-    has-bit-requires-5
-    is-unary-requires
-    either-requires
-    both-requires-3
-    both-requires-4
+    sentence-requires
+    sentence-requires-2
+    sentence-requires-3
+    sentence-requires-4
     add-up-requires
-    has-bit-requires-6
-    returns
-    returns-2
-    returns-3
-    returns-4
-    returns-5
-    returns-6
-    returns-7)
+    sentence-requires-5
+    both-requires
+    sentence-requires-6
+    both-requires-2
+    both-requires-3
+    sentence-requires-7
+    sentence-requires-8
+    both-requires-4
+    sentence-requires-9
+    both-requires-5
+    sentence-requires-10
+    sentence-requires-11
+    returns)

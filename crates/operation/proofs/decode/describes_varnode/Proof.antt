@@ -1,24 +1,22 @@
 -- `operation::decode::describes_varnode` meets its contract.
-use borrow.Author.Tests.{le-leb, lt-leb}
+use mathlib.Core.Path.{refl}
+use borrow.Author.Needs.{needs}
 use Rattle.operation.specs.Rules.{describesVarnode}
 use Rattle.operation.proofs.decode.describes_varnode.Statement.{statement}
 use Rattle.operation.proofs.decode.describes_varnode.Tie as tie
 
+both-requires : tie.Need-both-requires
+both-requires c κs = search needs
+
+is-size-requires : tie.Need-is-size-requires
+is-size-requires c κs = search needs
+
+both-requires-2 : tie.Need-both-requires-2
+both-requires-2 c κs = search needs
+
 returns : tie.Need-returns
 unfolding describesVarnode
-returns c = rw (lt-leb 1 _ (c .if1 .taken))
-
-returns-2 : tie.Need-returns-2
-unfolding describesVarnode
-returns-2 c = rw (le-leb 1 _ (c .before .if1 .left), lt-leb _ 4 (c .if2 .taken))
-
-returns-3 : tie.Need-returns-3
-unfolding describesVarnode
-returns-3 c = rw (le-leb 1 _ (c .before .before .if1 .left), le-leb _ 4 (c .before .if2 .left), lt-leb 1 _ (c .if3 .taken))
-
-returns-4 : tie.Need-returns-4
-unfolding describesVarnode
-returns-4 c = rw (le-leb 1 _ (c .before .before .if1 .left), le-leb _ 4 (c .before .if2 .left), le-leb 1 _ (c .if3 .left))
+returns c = rw (c .both2 .ensures, c .before .before .both .ensures, c .before .is-size .ensures) refl
 
 pub describes-varnode-spec : {M : Type 1} → statement M
-describes-varnode-spec = tie.close (tie.spec returns returns-2 returns-3 returns-4)
+describes-varnode-spec = tie.close (tie.spec both-requires is-size-requires both-requires-2 returns)

@@ -1,25 +1,9 @@
 -- `operation::rules::breaks_place` meets its contract.
-use mathlib.Core.Bool.{not}
-use mathlib.Core.Path.{sym, ap, _∙_}
+use mathlib.Core.Path.{refl}
 use borrow.Author.Needs.{needs}
-use borrow.Author.Tests.{eq-eqb, ne-eqb}
 use Rattle.operation.specs.Rules.{breaksPlace}
 use Rattle.operation.proofs.rules.breaks_place.Statement.{statement}
 use Rattle.operation.proofs.rules.breaks_place.Tie as tie
-
-returns : tie.Need-returns
-unfolding breaksPlace
-returns c = rw (eq-eqb (c .before .before .args .place) 0 (c .before .if1 .taken))
-
-accesses-requires : tie.Need-accesses-requires
-accesses-requires c κs = search needs
-
-names-space-requires : tie.Need-names-space-requires
-names-space-requires c κs = search needs
-
-returns-2 : tie.Need-returns-2
-unfolding breaksPlace
-returns-2 c = rw (ne-eqb (c .before .before .before .before .before .args .place) 0 (c .before .before .before .before .if1 .left), eq-eqb (c .before .before .before .before .before .args .place) 1 (c .before .before .before .if2 .taken), sym (c .before .before .accesses .ensures) ∙ c .before .if3 .taken) (ap not (c .names-space .ensures))
 
 branches-requires : tie.Need-branches-requires
 branches-requires c κs = search needs
@@ -27,38 +11,63 @@ branches-requires c κs = search needs
 is-destination-requires : tie.Need-is-destination-requires
 is-destination-requires c κs = search needs
 
-returns-3 : tie.Need-returns-3
-unfolding breaksPlace
-returns-3 c = rw (ne-eqb (c .before .before .before .before .before .before .before .args .place) 0 (c .before .before .before .before .before .before .if1 .left), eq-eqb (c .before .before .before .before .before .before .before .args .place) 1 (c .before .before .before .before .before .if2 .taken), sym (c .before .before .before .before .accesses .ensures) ∙ c .before .before .before .if3 .left, sym (c .before .before .branches .ensures) ∙ c .before .if4 .taken) (ap not (c .is-destination .ensures))
+pick-test-requires : tie.Need-pick-test-requires
+pick-test-requires c κs = search needs
 
-returns-4 : tie.Need-returns-4
-unfolding breaksPlace
-returns-4 c = rw (ne-eqb (c .before .before .before .before .before .before .args .place) 0 (c .before .before .before .before .before .if1 .left), eq-eqb (c .before .before .before .before .before .before .args .place) 1 (c .before .before .before .before .if2 .taken), sym (c .before .before .before .accesses .ensures) ∙ c .before .before .if3 .left, sym (c .before .branches .ensures) ∙ c .if4 .left)
+accesses-requires : tie.Need-accesses-requires
+accesses-requires c κs = search needs
 
-returns-5 : tie.Need-returns-5
-unfolding breaksPlace
-returns-5 c = rw (ne-eqb (c .before .before .before .before .before .args .place) 0 (c .before .before .before .before .if1 .left), ne-eqb (c .before .before .before .before .before .args .place) 1 (c .before .before .before .if2 .left), eq-eqb (c .before .before .before .before .before .args .place) 2 (c .before .before .if5 .taken), eq-eqb (c .before .before .before .before .before .args .opcode) 11 (c .before .if6 .taken))
+names-space-requires : tie.Need-names-space-requires
+names-space-requires c κs = search needs
 
-returns-6 : tie.Need-returns-6
-unfolding breaksPlace
-returns-6 c = rw (ne-eqb (c .before .before .before .before .args .place) 0 (c .before .before .before .if1 .left), ne-eqb (c .before .before .before .before .args .place) 1 (c .before .before .if2 .left), eq-eqb (c .before .before .before .before .args .place) 2 (c .before .if5 .taken), ne-eqb (c .before .before .before .before .args .opcode) 11 (c .if6 .left))
+pick-test-requires-2 : tie.Need-pick-test-requires-2
+pick-test-requires-2 c κs = search needs
 
-returns-7 : tie.Need-returns-7
+pick-test-requires-3 : tie.Need-pick-test-requires-3
+pick-test-requires-3 c κs = search needs
+
+pick-test-requires-4 : tie.Need-pick-test-requires-4
+pick-test-requires-4 c κs = search needs
+
+pick-test-requires-5 : tie.Need-pick-test-requires-5
+pick-test-requires-5 c κs = search needs
+
+pick-test-requires-6 : tie.Need-pick-test-requires-6
+pick-test-requires-6 c κs = search needs
+
+returns : tie.Need-returns
 unfolding breaksPlace
-returns-7 c = rw (ne-eqb (c .before .before .before .args .place) 0 (c .before .before .if1 .left), ne-eqb (c .before .before .before .args .place) 1 (c .before .if2 .left), ne-eqb (c .before .before .before .args .place) 2 (c .if5 .left))
+returns c =
+    let at-inputs = c .before in
+    let at-input1 = at-inputs .before .before in
+    let at-input0 = at-input1 .before in
+    let at-accesses = at-input0 .before .before in
+    let at-destination = at-accesses .before in
+    rw (
+      c .pick-test6 .ensures,
+      at-inputs .pick-test5 .ensures,
+      at-inputs .before .pick-test4 .ensures,
+      at-input1 .pick-test3 .ensures,
+      at-input0 .pick-test2 .ensures,
+      at-accesses .accesses .ensures,
+      at-input0 .before .names-space .ensures,
+      at-destination .pick-test .ensures,
+      at-destination .before .before .branches .ensures,
+      at-destination .before .is-destination .ensures,
+    ) refl
 
 pub breaks-place-spec : {M : Type 1} → statement M
 breaks-place-spec =
     tie.close
     (tie.spec
-    returns
-    accesses-requires
-    names-space-requires
-    returns-2
     branches-requires
     is-destination-requires
-    returns-3
-    returns-4
-    returns-5
-    returns-6
-    returns-7)
+    pick-test-requires
+    accesses-requires
+    names-space-requires
+    pick-test-requires-2
+    pick-test-requires-3
+    pick-test-requires-4
+    pick-test-requires-5
+    pick-test-requires-6
+    returns)

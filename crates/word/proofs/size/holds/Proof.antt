@@ -1,23 +1,22 @@
 -- `word::size::holds` meets its contract.
-use Prim.Native.Nat.{suc, _^_}
+use mathlib.Core.Path.{refl, sym}
 use native.Mathlib.Omega.{arith}
 use borrow.Author.Needs.{needs}
-use Rattle.word.proofs.Powers.{size-pos}
-use Rattle.word.proofs.Tests.{leb-agree, below-one}
+use borrow.Author.Tests.{lt-ltb}
+use Rattle.word.proofs.Powers.{size-mono}
 use Rattle.word.proofs.size.holds.Statement.{statement}
 use Rattle.word.proofs.size.holds.Tie as tie
 
 returns : tie.Need-returns
-returns c = rw (c .if1 .taken) (below-one (c .before .args .x))
+returns c =
+    let a = c .before .args in
+    sym (lt-ltb (a .x) _ (omega (arith, size-mono 8 (a .size) (c .if1 .taken), c .before .fits .x .fits)))
 
-largest-requires : tie.Need-largest-requires
-largest-requires c κs = search needs
+modulus-requires : tie.Need-modulus-requires
+modulus-requires c κs = search needs
 
 returns-2 : tie.Need-returns-2
-returns-2 c =
-    let a = c .before .before .args in
-    let p = size-pos (a .size) in
-    leb-agree (a .x) (c .largest .result) (suc (a .x)) (256 ^ a .size) (λ h. omega (arith, c .largest .ensures)) (λ h. omega (arith, c .largest .ensures))
+returns-2 c = rw (c .modulus .ensures) refl
 
 pub holds-spec : {M : Type 1} → statement M
-holds-spec = tie.close (tie.spec returns largest-requires returns-2)
+holds-spec = tie.close (tie.spec returns modulus-requires returns-2)

@@ -1,10 +1,10 @@
--- `arithmetic::operands::member` meets its contract.
+-- `arithmetic::opcodes::has_bit` meets its contract.
 use mathlib.Core.Path.{refl}
 use native.Mathlib.Omega.{arith}
 use Rattle.word.specs.Sum.{digit}
-use Rattle.arithmetic.proofs.Agreement.{no-bit}
-use Rattle.arithmetic.proofs.operands.has_bit.Statement.{statement}
-use Rattle.arithmetic.proofs.operands.has_bit.Tie as tie
+use Rattle.arithmetic.proofs.Table.{no-bit}
+use Rattle.arithmetic.proofs.opcodes.has_bit.Statement.{statement}
+use Rattle.arithmetic.proofs.opcodes.has_bit.Tie as tie
 
 returns : tie.Need-returns
 returns c = let a = c .before .args in rw (no-bit (a .set) (a .opcode) 64 (c .before .fits .set .fits) (c .if1 .taken)) refl

@@ -1,13 +1,13 @@
--- `validation::decode_at` meets its contract.
+-- `operation::decode::decode_at` meets its contract.
 use Prim.Native.Nat.{ℕ}
 use mathlib.Core.Path.{_∙_, ap}
 use borrow.Author.Needs.{needs}
-use Rattle.validation.proofs.Walk.{same-decoding}
 use Rattle.operation.specs.Layout.{descriptorAt, offsetAt}
-use Rattle.operation.specs.Shapes.{hasPlace}
+use Rattle.arithmetic.specs.Opcodes.{hasPlace}
 use Rattle.operation.specs.Decoding.{decodedAt}
-use Rattle.validation.proofs.decode_at.Statement.{statement}
-use Rattle.validation.proofs.decode_at.Tie as tie
+use Rattle.operation.proofs.Decoding.{same-decoding}
+use Rattle.operation.proofs.decode.decode_at.Statement.{statement}
+use Rattle.operation.proofs.decode.decode_at.Tie as tie
 
 opcode-at-requires : tie.Need-opcode-at-requires
 opcode-at-requires c κs = search needs
@@ -33,8 +33,11 @@ decode-requires c κs = search needs
 returns : tie.Need-returns
 unfolding decodedAt descriptorAt offsetAt
 returns c =
+    let at-head = c .before .before in
+    let at-place = at-head .before in
+    let place = at-place .before .before .before .args .place in
     c .decode .ensures .0
-    ∙ same-decoding (c .before .before .before .has-place .ensures ∙ ap (λ (n : ℕ). hasPlace n (c .before .before .before .before .before .before .args .place)) (c .before .before .before .before .opcode-at .ensures)) (c .before .before .head-byte .ensures) (c .before .word-at .ensures)
+    ∙ same-decoding (at-place .has-place .ensures ∙ ap (λ (n : ℕ). hasPlace n place) (at-place .before .opcode-at .ensures)) (at-head .head-byte .ensures) (c .before .word-at .ensures)
 
 pub decode-at-spec : {M : Type 1} → statement M
 decode-at-spec =
