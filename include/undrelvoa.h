@@ -1,6 +1,6 @@
 /* The C interface of Undrelvoa, the proved p-code interpreter.
  *
- * Link target/staticlib/libexports.a, which `rt staticlib exports` makes.
+ * Link target/staticlib/libundrelvoa.a, which `rt staticlib undrelvoa` makes.
  *
  * Every function takes every number; of buffers it asks what stands at the end of this comment. It
  * answers 0 when it has done its work, or else the number of the fault it found; where several faults

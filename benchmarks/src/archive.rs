@@ -39,7 +39,7 @@ fn no_function_of_the_loop_is_called() {
 /// The names of the archive's functions, by nm.
 fn functions() -> Vec<String> {
     let package = env::var("CARGO_MANIFEST_DIR").expect("cargo names the package's directory");
-    let archive = Path::new(&package).join("../target/staticlib/libexports.a");
+    let archive = Path::new(&package).join("../target/staticlib/libundrelvoa.a");
     let output =
         Command::new("nm").arg(archive).output().expect("nm runs: it is one of cc's binutils");
     assert!(output.status.success(), "nm cannot read the archive");

@@ -1,7 +1,7 @@
 -- What the operands of an operation satisfy, by the sentence of rule 25 that its opcode falls under.
 use Prim.Native.Nat.{ℕ, _+_, _*_, _^_, _≤_, _<_}
-use mathlib.Core.Bool.{true, false, cond, _&&_}
-use mathlib.Core.Path.{_≡_, refl, subst, ap, _∙_}
+use mathlib.Core.Bool.{Bool, true, false, cond, _&&_}
+use mathlib.Core.Path.{_≡_, refl, sym, subst, ap, _∙_}
 use native.Mathlib.Omega.{arith}
 use native.Mathlib.Nat.{lt-of-lt-of-le}
 use borrow.Author.Tests.{eqb-true}
@@ -12,6 +12,10 @@ use Rattle.integer.proofs.Whole.{piece-lt}
 use Rattle.arithmetic.specs.Opcodes.{Sizes, kept, equal, compared, extended, boolean, negated, joined, pointer, indirect, condition, free, none}
 use Rattle.arithmetic.specs.Operands.{divides, agree, sizesAgree, Operands}
 use Rattle.arithmetic.proofs.Table.{numberOf, is}
+
+-- a test by a set, as a fact of the opcode
+pub tested : {r x y t : Bool} → r ≡ x → x ≡ y → r ≡ t → y ≡ t
+tested a b c = sym b ∙ sym a ∙ c
 
 -- rule 25 as the code goes through it
 pub by-sentence : (s : Sizes) (A size size0 size1 : ℕ)

@@ -12,7 +12,7 @@ use Rattle.word.specs.Sum.{tabulate, digit}
 use Rattle.word.proofs.Sums.{tabulate-at}
 use Rattle.integer.specs.Operations.{flag}
 use Rattle.integer.proofs.Booleans.{both}
-use Rattle.arithmetic.specs.Opcodes.{mostInputs, lastOpcode, firstInteger, lastInteger, Sizes, kept, equal, compared, extended, boolean, negated, joined, pointer, indirect, condition, free, none, opcodes, rowOf, outputs, inputs, sizesOf, hasPlace}
+use Rattle.arithmetic.specs.Opcodes.{mostInputs, lastOpcode, firstInteger, Sizes, kept, equal, compared, extended, boolean, negated, joined, pointer, indirect, condition, free, none, opcodes, rowOf, outputs, inputs, sizesOf, hasPlace}
 
 -- ---- the table
 
@@ -197,13 +197,11 @@ pub free-set : (k : ℕ) → eqb (digit 2 6288 k) 1 ≡ is (sizesOf k) free
 unfolding sizesOf rowOf opcodes is numberOf flag tabulate digit
 free-set = set-sizes 6288 free (lit< tt) refl refl
 
--- ---- the integer operations
-
--- they have an output and an input0
-pub data-shape : (n : ℕ) → firstInteger ≤ n → n ≤ lastInteger → (hasPlace n 0 ≡ true) × (hasPlace n 1 ≡ true)
+-- from the first integer operation on they have an output and an input0
+pub data-shape : (n : ℕ) → firstInteger ≤ n → n ≤ lastOpcode → (hasPlace n 0 ≡ true) × (hasPlace n 1 ≡ true)
 unfolding tabulate flag hasPlace outputs inputs rowOf opcodes
 data-shape n low high =
     let f : flag (hasPlace n 0 && hasPlace n 1) ≡ 1 =
-    same-tables (λ k. flag (hasPlace k 0 && hasPlace k 1)) (λ k. cond (leb firstInteger k) 1 (flag (hasPlace k 0 && hasPlace k 1))) (suc lastInteger) refl n (omega arith)
+    same-tables (λ k. flag (hasPlace k 0 && hasPlace k 1)) (λ k. cond (leb firstInteger k) 1 (flag (hasPlace k 0 && hasPlace k 1))) (suc lastOpcode) refl n (omega arith)
     ∙ rw (le-leb firstInteger n low) refl in
     both (hasPlace n 0) (hasPlace n 1) (sym (flag-one (hasPlace n 0 && hasPlace n 1)) ∙ rw f refl)

@@ -9,10 +9,6 @@ use lib.Dec.{eqb, leb}
 abbrev pub mostInputs : ℕ
 mostInputs = 3
 
--- The last opcode.
-abbrev pub lastOpcode : ℕ
-lastOpcode = 42
-
 -- The integer operations, whose values the arithmetic computes: the first,
 abbrev pub firstInteger : ℕ
 firstInteger = 10
@@ -20,6 +16,10 @@ firstInteger = 10
 -- and the last.
 abbrev pub lastInteger : ℕ
 lastInteger = 42
+
+-- The last opcode.
+abbrev pub lastOpcode : ℕ
+lastOpcode = lastInteger
 
 -- The sentences of rule 25 SIZE; `agree` of Operands says what each asks.
 pub data Sizes : Type 0 where

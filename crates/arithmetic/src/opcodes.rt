@@ -8,13 +8,13 @@ ghost use Rattle.arithmetic.specs.Opcodes.{hasPlace};
 // The inputs that an operation can have.
 pub const MOST_INPUTS: u8 = 3;
 
-// The last opcode.
-pub const LAST_OPCODE: u64 = 42;
-
 // The integer operations: the first, and the last.
 pub const FIRST_INTEGER: u64 = 10;
 
 pub const LAST_INTEGER: u64 = 42;
+
+// The last opcode.
+pub const LAST_OPCODE: u64 = LAST_INTEGER;
 
 // The operations that have a varnode at a place.
 const WITH_OUTPUT: u64 = 0b111_11111111_11111111_11111111_11111100_00000110;

@@ -49,10 +49,17 @@ pub fn is_division(opcode: u64) -> bool
     both(35 <= opcode, opcode <= 38)
 }
 
-// Paper 01's rule 25 SIZE, a line for each of its sentences, the last one first.
+// Paper 01's rule 25 SIZE, a line for each of its sentences, the last one first. The two that most operations fall under are left at
+// once; the others are tests without a branch.
 pub fn sizes_agree(address_size: u64, opcode: u64, size: u64, size0: u64, size1: u64) -> bool
     ensures { λ r. ⌜ r ≡ sizesAgree «address_size» opcode size size0 size1 ⌝ }
 {
+    if has_bit(SIZE_KEPT, opcode) {
+        return size0 == size;
+    }
+    if has_bit(SIZES_EQUAL, opcode) {
+        return both(size0 == size, size1 == size);
+    }
     let free = sentence(SIZES_FREE, opcode, true, false);
     let condition = sentence(CONDITIONS, opcode, size1 == 1, free);
     let indirect = sentence(INDIRECT, opcode, size0 == address_size, condition);
@@ -66,19 +73,12 @@ pub fn sizes_agree(address_size: u64, opcode: u64, size: u64, size0: u64, size1:
         negated,
     );
     let extended = sentence(EXTENSIONS, opcode, size0 < size, boolean);
-    let compared = sentence(
+    sentence(
         COMPARISONS,
         opcode,
         both(size1 == size0, size == 1),
         extended,
-    );
-    let equal = sentence(
-        SIZES_EQUAL,
-        opcode,
-        both(size0 == size, size1 == size),
-        compared,
-    );
-    sentence(SIZE_KEPT, opcode, size0 == size, equal)
+    )
 }
 
 // What a sentence asks of the opcodes of its set, and the sentences after it of any other.

@@ -15,7 +15,6 @@ use super::layout::word_at;
 use arithmetic::opcodes::has_place;
 use integer::boolean::both;
 use integer::boolean::either;
-use integer::boolean::pick_test;
 use word::size::is_size;
 
 pub enum Decoded {
@@ -52,11 +51,10 @@ fn decode(wanted: bool, descriptor: u64, offset: u64) -> Decoded
 fn breaks_shape(wanted: bool, descriptor: u64, offset: u64) -> bool
     ensures { λ r. ⌜ r ≡ breaksShape wanted descriptor offset ⌝ }
 {
-    pick_test(
-        descriptor == 0,
-        either(wanted, offset != 0),
-        either(!wanted, !describes_varnode(descriptor)),
-    )
+    if descriptor == 0 {
+        return either(wanted, offset != 0);
+    }
+    either(!wanted, !describes_varnode(descriptor))
 }
 
 // A space of 1 to 4 and a size of 1 to 8.

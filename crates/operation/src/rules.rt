@@ -25,36 +25,63 @@ pub fn breaks_head(list: &[u64], i: usize) -> bool
     either(!both(1 <= opcode, opcode <= LAST_OPCODE), spare != 0)
 }
 
+// The classes of opcodes. With a test a line the compiler makes one jump of them and the tests of their callers; with `either` it does not.
 // LOAD, STORE
 pub fn accesses(opcode: u64) -> bool
     ensures { λ r. ⌜ r ≡ accesses opcode ⌝ }
 {
-    either(opcode == 2, opcode == 3)
+    if opcode == 2 {
+        return true;
+    }
+    opcode == 3
 }
 
 // BRANCH, CBRANCH, CALL
 pub fn branches(opcode: u64) -> bool
     ensures { λ r. ⌜ r ≡ branches opcode ⌝ }
 {
-    either(opcode == 4, either(opcode == 5, opcode == 7))
+    if opcode == 4 {
+        return true;
+    }
+    if opcode == 5 {
+        return true;
+    }
+    opcode == 7
 }
 
 // BRANCHIND, CALLIND, RETURN
 pub fn jumps(opcode: u64) -> bool
     ensures { λ r. ⌜ r ≡ jumps opcode ⌝ }
 {
-    either(opcode == 6, either(opcode == 8, opcode == 9))
+    if opcode == 6 {
+        return true;
+    }
+    if opcode == 8 {
+        return true;
+    }
+    opcode == 9
 }
 
 pub fn breaks_place(opcode: u64, place: u8, v: Varnode) -> bool
     ensures { λ r. ⌜ r ≡ breaksPlace opcode place v ⌝ }
 {
+    if place == 1 {
+        return breaks_place0(opcode, v);
+    }
     let space = v.space;
-    let destination = pick_test(branches(opcode), !is_destination(v), false);
-    let input0 = pick_test(accesses(opcode), !names_space(v), destination);
     let input1 = pick_test(opcode == 11, space != 1, false);
-    let inputs = pick_test(place == 1, input0, pick_test(place == 2, input1, false));
-    pick_test(place == 0, space == 1, inputs)
+    let input = pick_test(place == 2, input1, false);
+    pick_test(place == 0, space == 1, input)
+}
+
+// The same of input0.
+fn breaks_place0(opcode: u64, v: Varnode) -> bool
+    ensures { λ r. ⌜ r ≡ breaksPlace opcode 1 v ⌝ }
+{
+    if accesses(opcode) {
+        return !names_space(v);
+    }
+    pick_test(branches(opcode), !is_destination(v), false)
 }
 
 // A constant 2, 3 or 4.
@@ -88,21 +115,22 @@ fn beyond(lengths: Lengths, v: Varnode) -> bool
     ensures { λ r. ⌜ r ≡ beyond lengths v ⌝ }
 {
     let space = v.space;
-    let offset = v.offset;
-    let size = v.size;
-    let outside = !within(offset, size, length_of(lengths, space));
-    let constant = pick_test(space == 1, !holds(size, offset), outside);
-    pick_test(space == 0, false, constant)
+    if space == 0 {
+        return false;
+    }
+    if space == 1 {
+        return !holds(v.size, v.offset);
+    }
+    !within(v.offset, v.size, length_of(lengths, space))
 }
 
 pub fn breaks_range(lengths: Lengths, opcode: u64, place: u8, v: Varnode) -> bool
     ensures { λ r. ⌜ r ≡ breaksRange lengths opcode place v ⌝ }
 {
-    pick_test(
-        both(place == 1, branches(opcode)),
-        false,
-        beyond(lengths, v),
-    )
+    if both(place == 1, branches(opcode)) {
+        return false;
+    }
+    beyond(lengths, v)
 }
 
 pub fn breaks_size(address_size: u64, opcode: u64, size: u64, size0: u64, size1: u64) -> bool
@@ -126,10 +154,8 @@ pub fn breaks_target(n: u64, i: u64, opcode: u64, v: Varnode) -> bool
     requires { ⌜ i ≤ n ⌝ }
     ensures { λ r. ⌜ r ≡ breaksTarget n i opcode v ⌝ }
 {
-    let space = v.space;
-    let offset = v.offset;
-    both(
-        both(branches(opcode), space == 1),
-        target_outside(n, i, offset),
-    )
+    if both(branches(opcode), v.space == 1) {
+        return target_outside(n, i, v.offset);
+    }
+    false
 }

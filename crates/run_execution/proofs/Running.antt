@@ -12,6 +12,7 @@ use lib.ListN.{length, take, drop, set, length-set, take-append-drop}
 use lib.Seq.{length-take-le, take-suc-set, drop-set-lt, drop-drop}
 use Rattle.word.specs.Word.{bytesOf}
 use Rattle.operation.specs.Layout.{operationCount}
+use Rattle.validation.specs.Verdict.{mostOperations, mostBytes}
 use Rattle.machine.specs.Program.{Program, bigEndian}
 use Rattle.machine.specs.Memory.{Memory, OfBytes, lengthsOf, written, valueAt}
 use Rattle.machine.specs.Effect.{Operation, operationAt}
@@ -170,7 +171,7 @@ module _ (program : Program) (budget start from : ℕ) (log₀ : List ℕ) (m₀
       unfolding applied continued
       at-stop h = finally (p .stop) 0 (run-step ∙ rw (lt-ltb 1 (p .stop) h) refl)
 
-      pub may-log : (i < 4096) × (p .low ≤ 65536)
+      pub may-log : (i < mostOperations) × (p .low ≤ mostBytes)
       may-log = (index-small (lengthsOf m) (program .list) still i before-end, rw ep (low-small program m i still before-end _ _))
 
       pub may-write : Placed m (p .target)

@@ -4,6 +4,7 @@ ghost use mathlib.Core.Bool.{true, cond};
 ghost use Prim.Native.Nat.{_+_, _≤_, _<_};
 ghost use lib.ListN.{length, set};
 ghost use Rattle.operation.specs.Layout.{operationCount};
+ghost use Rattle.validation.specs.Verdict.{mostOperations, mostBytes};
 ghost use Rattle.machine.specs.Program.{programOf};
 ghost use Rattle.machine.specs.Memory.{spaces, lengthsOf};
 ghost use Rattle.machine.specs.Run.{logWord, run};
@@ -12,10 +13,11 @@ ghost use Rattle.run_plan.specs.Valid.{Valid};
 ghost use Rattle.run_execution.specs.Loops.{position};
 use integer::boolean::both;
 use operation::layout::Settings;
+use operation::layout::operation_count;
 use operation::report::Report;
+use operation::report::run_report;
 use run_memory::varnode::write;
 use run_plan::plan_at;
-use validation::operation_count;
 
 // A run from operation `start`, with the first `from` words of the log written before.
 pub fn run_from(
@@ -40,22 +42,22 @@ pub fn run_from(
     let mut executed: u64 = 0;
     loop {
         if i == count {
-            return report(0, i, executed, k, 0);
+            return run_report(0, i, executed, k, 0);
         }
         if executed == budget {
-            return report(2, i, executed, k, 0);
+            return run_report(2, i, executed, k, 0);
         }
         let p = plan_at(settings, list, unique, register, ram, i);
         if 1 < p.stop {
-            return report(p.stop, i, executed, k, 0);
+            return run_report(p.stop, i, executed, k, 0);
         }
         if both(p.due, log.len() <= k) {
-            return report(34, i, executed, k, 0);
+            return run_report(34, i, executed, k, 0);
         }
         k = push(log, k, p.due, log_word(i, p.low));
         executed = executed + 1;
         if p.stop == 1 {
-            return report(1, i, executed, k, p.value);
+            return run_report(1, i, executed, k, p.value);
         }
         let target = p.target;
         write(settings, unique, register, ram, target, p.value);
@@ -63,20 +65,8 @@ pub fn run_from(
     }
 }
 
-pub fn report(ending: u64, index: usize, executed: u64, logged: usize, value: u64) -> Report
-    ensures { λ r. ⌜ r ≡ record { ending = ending; index = index; executed = executed; logged = logged; value = value } ⌝ }
-{
-    Report {
-        ending: ending,
-        index: index as u64,
-        executed: executed,
-        logged: logged as u64,
-        value: value,
-    }
-}
-
 fn log_word(i: usize, low: u64) -> u64
-    requires { ⌜ (i < 4096) × (low ≤ 65536) ⌝ }
+    requires { ⌜ (i < mostOperations) × (low ≤ mostBytes) ⌝ }
     ensures { λ r. ⌜ r ≡ logWord i low ⌝ }
 {
     (i as u64) * 4294967296 + low

@@ -19,15 +19,15 @@ ghost use Rattle.run_labelled.specs.Turns.{Fitting, turnOf, completes, p
 use integer::boolean::both;
 use operation::layout::Settings;
 use operation::layout::opcode_at;
+use operation::layout::operation_count;
 use operation::report::Report;
+use operation::report::run_report;
 use operation::rules::accesses;
-use run_execution::report;
 use run_execution::run_from;
 use run_memory::labels::mark;
 use run_taint::becomes_secret;
 use run_taint::leaks_at;
 use run_taint::target_at;
-use validation::operation_count;
 
 // A run from operation `start`, with the first `from` words of the log written before.
 pub fn run_any(
@@ -77,7 +77,7 @@ pub fn run_any(
         k = done.logged as usize;
         executed = executed + done.executed;
         if !both(done.ending == 2, executed < budget) {
-            return report(done.ending, i, executed, k, done.value);
+            return run_report(done.ending, i, executed, k, done.value);
         }
     }
 }
@@ -169,12 +169,12 @@ fn step_at(
         most,
     );
     if leak {
-        return report(31, i, 0, k, 0);
+        return run_report(31, i, 0, k, 0);
     }
     let done = run_from(settings, list, unique, register, ram, log, i, k, most);
-    let went = completes(labelled, done.executed, done.ending);
+    let completed = completes(labelled, done.executed, done.ending);
     mark_after(
-        went,
+        completed,
         list,
         unique_labels,
         register_labels,
@@ -214,9 +214,9 @@ fn completes(labelled: bool, executed: u64, ending: u64) -> bool
     both(labelled, both(executed != 0, ending != 1))
 }
 
-// The labels after operation i, if it went on. Its log word, at k, holds the pointer of LOAD and STORE.
+// The labels after operation i, if it was completed. Its log word, at k, holds the pointer of LOAD and STORE.
 fn mark_after(
-    went: bool,
+    completed: bool,
     list: &[u64],
     unique: &mut [u8],
     register: &mut [u8],
@@ -225,14 +225,14 @@ fn mark_after(
     i: usize,
     k: usize,
 )
-    requires { ⌜ (went ≡ true → Markable (spaces (now unique) (now register) (now ram)) (now list) (now log) i k) ⌝ }
+    requires { ⌜ (completed ≡ true → Markable (spaces (now unique) (now register) (now ram)) (now list) (now log) i k) ⌝ }
     ensures { λ _. ⌜ spaces (now (unique .exit)) (now (register .exit)) (now (ram .exit))
-        ≡ cond went
+        ≡ cond completed
         (labelsAfter (spaces (now (unique .entry)) (now (register .entry)) (now (ram .entry))) (operationAt (now (list .entry)) i)
         (pointerLogged (operationAt (now (list .entry)) i) (now (log .entry)) k))
         (spaces (now (unique .entry)) (now (register .entry)) (now (ram .entry))) ⌝ }
 {
-    if went {
+    if completed {
         let pointer = pointer_at(list, log, i, k);
         let target = target_at(list, i, pointer);
         if target.space != 0 {

@@ -8,7 +8,7 @@ ghost use Rattle.integer.specs.Operations.{flag};
 ghost use Rattle.machine.specs.Memory.{spaces, written};
 ghost use Rattle.machine.specs.Conditions.{hasSecret};
 ghost use Rattle.run_memory.specs.Placed.{Placed};
-use super::varnode::space_of;
+use super::space::space_of;
 use operation::layout::Varnode;
 use word::bytes::gather;
 use word::bytes::scatter;

@@ -5,8 +5,9 @@ ghost use lib.ListN.{length};
 ghost use lib.Seq.{sets};
 ghost use Rattle.word.specs.Word.{bytesOf};
 ghost use Rattle.machine.specs.Program.{bigEndian};
-ghost use Rattle.machine.specs.Memory.{spaces, spaceOf, valueAt, written};
+ghost use Rattle.machine.specs.Memory.{spaces, valueAt, written};
 ghost use Rattle.run_memory.specs.Placed.{Placed};
+use super::space::space_of;
 use operation::layout::Settings;
 use operation::layout::Varnode;
 use word::bytes::gather;
@@ -83,23 +84,6 @@ pub fn read_moved<'a>(
         gather(true, bytes, at, size)
     } else {
         gather(false, bytes, at, size)
-    }
-}
-
-// The bytes of a space with bytes, by its number.
-pub(crate) fn space_of<'a>(
-    unique: &'a [u8],
-    register: &'a [u8],
-    ram: &'a [u8],
-    space: u64,
-) -> &'a [u8]
-    requires { ⌜ (2 ≤ space) × (space ≤ 4) ⌝ }
-    ensures { λ r. ⌜ now r ≡ spaceOf (spaces (now (unique .entry)) (now (register .entry)) (now (ram .entry))) space ⌝ }
-{
-    match space {
-        2 => unique,
-        3 => register,
-        _ => ram,
     }
 }
 

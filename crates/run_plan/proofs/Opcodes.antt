@@ -7,7 +7,7 @@ use mathlib.Core.List.{[], _∷_}
 use borrow.Author.Tests.{eqb-false, eq-eqb, ne-eqb}
 use lib.Dec.{eqb}
 use Rattle.integer.proofs.Booleans.{neither}
-use Rattle.arithmetic.specs.Opcodes.{member}
+use Rattle.arithmetic.specs.Opcodes.{firstInteger, member}
 use Rattle.arithmetic.specs.Operands.{divides}
 use Rattle.operation.specs.declared.layout.Varnode.{Varnode}
 use Rattle.operation.specs.Rules.{accesses, branches, jumps}
@@ -58,16 +58,16 @@ pub access-no-branch : (n : ℕ) → accesses n ≡ true → branches n ≡ fals
 unfolding branches member
 access-no-branch n a = each-access (λ k. branches k ≡ false) refl refl n a
 
--- from 10 on there is none of them
-pub late-no-access : (n : ℕ) → 10 ≤ n → accesses n ≡ false
+-- from the first integer operation on there is none of them
+pub late-no-access : (n : ℕ) → firstInteger ≤ n → accesses n ≡ false
 unfolding accesses member
 late-no-access n l = rw (ne-eqb n 2 (λ e. omega arith), ne-eqb n 3 (λ e. omega arith)) refl
 
-pub late-no-branch : (n : ℕ) → 10 ≤ n → branches n ≡ false
+pub late-no-branch : (n : ℕ) → firstInteger ≤ n → branches n ≡ false
 unfolding branches member
 late-no-branch n l = rw (ne-eqb n 4 (λ e. omega arith), ne-eqb n 5 (λ e. omega arith), ne-eqb n 7 (λ e. omega arith)) refl
 
-pub late-no-jump : (n : ℕ) → 10 ≤ n → jumps n ≡ false
+pub late-no-jump : (n : ℕ) → firstInteger ≤ n → jumps n ≡ false
 unfolding jumps member
 late-no-jump n l = rw (ne-eqb n 6 (λ e. omega arith), ne-eqb n 8 (λ e. omega arith), ne-eqb n 9 (λ e. omega arith)) refl
 
@@ -125,10 +125,10 @@ no-jump n j =
 five : (n : ℕ) → 1 ≤ n → (n ≡ 1 → ⊥) → (n ≡ 2 → ⊥) → (n ≡ 3 → ⊥) → (n ≡ 4 → ⊥) → 5 ≤ n
 five n l n1 n2 n3 n4 = omega arith
 
-ten-from : (n : ℕ) → 5 ≤ n → (n ≡ 5 → ⊥) → (n ≡ 6 → ⊥) → (n ≡ 7 → ⊥) → (n ≡ 8 → ⊥) → (n ≡ 9 → ⊥) → 10 ≤ n
+ten-from : (n : ℕ) → 5 ≤ n → (n ≡ 5 → ⊥) → (n ≡ 6 → ⊥) → (n ≡ 7 → ⊥) → (n ≡ 8 → ⊥) → (n ≡ 9 → ⊥) → firstInteger ≤ n
 ten-from n l n5 n6 n7 n8 n9 = omega arith
 
-pub late : (n : ℕ) → 1 ≤ n → (n ≡ 1 → ⊥) → accesses n ≡ false → branches n ≡ false → jumps n ≡ false → 10 ≤ n
+pub late : (n : ℕ) → 1 ≤ n → (n ≡ 1 → ⊥) → accesses n ≡ false → branches n ≡ false → jumps n ≡ false → firstInteger ≤ n
 late n l n1 a b j =
     let na = no-access n a in
     let nb = no-branch n b in

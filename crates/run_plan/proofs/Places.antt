@@ -5,18 +5,18 @@ use mathlib.Core.Path.{_≡_, refl, sym, subst}
 use mathlib.Core.Bool.{Bool, true, false, cond, not, _&&_}
 use mathlib.Core.List.{List, []}
 use native.Mathlib.Omega.{arith}
-use borrow.Author.Tests.{leb-true, ne-eqb, not-false}
+use borrow.Author.Tests.{leb-true, not-false}
 use lib.Dec.{eqb, leb}
 use lib.ListN.{length}
 use Rattle.word.specs.Word.{Bytes}
 use Rattle.integer.proofs.Booleans.{both}
-use Rattle.arithmetic.specs.Opcodes.{member, opcodes, rowOf, outputs, hasPlace}
+use Rattle.arithmetic.specs.Opcodes.{mostInputs, opcodes, rowOf, outputs, hasPlace, member}
 use Rattle.arithmetic.specs.Operands.{sizesAgree}
 use Rattle.operation.specs.declared.layout.Settings.{Settings}
 use Rattle.operation.specs.declared.layout.Lengths.{Lengths}
 use Rattle.operation.specs.Layout.{wordsPerOperation, operationCount, opcodeAt, varnodeAt, absent}
-use Rattle.operation.specs.Rules.{accesses, branches, jumps, namesSpace, breaksPlace, lengthOf, breaksSize}
-use Rattle.operation.proofs.Tables.{data-shape}
+use Rattle.operation.specs.Rules.{accesses, branches, namesSpace, breaksPlace, lengthOf, breaksSize}
+use Rattle.arithmetic.proofs.Table.{data-shape}
 use Rattle.validation.specs.Verdict.{mostOperations, mostBytes, lengthsInRange}
 use Rattle.validation.specs.WellFormed.{WellFormed}
 use Rattle.machine.specs.Memory.{Memory, OfBytes, spaces, lengthsOf, spaceOf, valueAt}
@@ -27,7 +27,7 @@ use Rattle.machine.proofs.Cases.{either}
 use Rattle.run_memory.specs.Placed.{Placed}
 use Rattle.run_plan.specs.Valid.{Valid}
 use Rattle.run_plan.specs.Plans.{Movable, Branching, Computable}
-use Rattle.run_plan.proofs.Opcodes.{each-branch, access-no-branch, no-branch, late}
+use Rattle.run_plan.proofs.Opcodes.{each-branch, access-no-branch, late}
 
 -- a list is valid by the lengths of the spaces alone
 pub valid-with : {a b : Lengths} {list : List ℕ} → a ≡ b → Valid b list → Valid a list
@@ -50,7 +50,7 @@ space-length m space = by (eqb space 2) (eqb space 3) (eqb space 4)
     by false false false = refl
 
 module _ (m : Memory) (addressSize : ℕ) (list : List ℕ) (i : ℕ) (w : WellFormed addressSize (lengthsOf m) list i) where
-  pub placed : (place : ℕ) → place ≤ 3 → (place ≡ 1 → branches (opcodeAt list i) ≡ false) → Placed m (varnodeAt list i place)
+  pub placed : (place : ℕ) → place ≤ mostInputs → (place ≡ 1 → branches (opcodeAt list i) ≡ false) → Placed m (varnodeAt list i place)
   unfolding absent
   placed place h exempt = by (hasPlace (opcodeAt list i) place) refl
     where
@@ -82,11 +82,10 @@ module _ (m : Memory) (addressSize : ℕ) (list : List ℕ) (i : ℕ) (w : WellF
         stored = placed 3 (omega arith) (λ z. f);
       }
 
-  -- rule 25 of the opcodes from 10 on
-  agree : (opcodeAt list i ≡ 1 → ⊥) → accesses (opcodeAt list i) ≡ false → branches (opcodeAt list i) ≡ false → jumps (opcodeAt list i) ≡ false
-      → sizesAgree (opcodeAt list i) (varnodeAt list i 0 .size) (varnodeAt list i 1 .size) (varnodeAt list i 2 .size) ≡ true
+  -- rule 25
+  sizes : sizesAgree addressSize (opcodeAt list i) (varnodeAt list i 0 .size) (varnodeAt list i 1 .size) (varnodeAt list i 2 .size) ≡ true
   unfolding breaksSize
-  agree n1 a b j = not-false _ (rw (ne-eqb (opcodeAt list i) 1 n1, a, j, no-branch (opcodeAt list i) b .n5, b) at (w .sized))
+  sizes = not-false _ (w .sized)
 
   pub computable : (settings : Settings) → Words list → OfBytes m → operationCount list < 2 ^ 64 → accesses (opcodeAt list i) ≡ false → branches (opcodeAt list i) ≡ false
       → (a b : ℕ) → a ≡ valueAt settings m (varnodeAt list i 1) → b ≡ valueAt settings m (varnodeAt list i 2) → Computable (operationAt list i) a b
@@ -108,7 +107,8 @@ module _ (m : Memory) (addressSize : ℕ) (list : List ℕ) (i : ℕ) (w : WellF
           most1 = placed 2 (omega arith) (λ z. nb) .size;
           below0 = rw ea (f .fits0 nb);
           below1 = rw eb (f .fits1);
-          agree = agree n1 na nb j;
+          addressSize = addressSize;
+          agree = sizes;
           divisor = d;
         };
   }
@@ -146,7 +146,7 @@ in-range lengths list e =
 module _ (lengths : Lengths) (list : List ℕ) (v : Valid lengths list) (i : ℕ) (h : i < operationCount list) where
   pub in-words : wordsPerOperation * i + wordsPerOperation ≤ length list
   unfolding operationCount
-  in-words = omega (arith, div-mul-le-self (length list) 5)
+  in-words = omega (arith, div-mul-le-self (length list) wordsPerOperation)
 
-  pub index-small : i < 4096
+  pub index-small : i < mostOperations
   index-small = omega (arith, in-range lengths list (v .inRange) .0)

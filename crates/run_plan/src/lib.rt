@@ -6,24 +6,27 @@ ghost use lib.Dec.{eqb};
 ghost use lib.ListN.{length};
 ghost use Rattle.operation.specs.Layout.{wordsPerOperation, operationCount};
 ghost use Rattle.operation.specs.Rules.{accesses, branches};
+ghost use Rattle.validation.specs.Verdict.{mostOperations};
 ghost use Rattle.machine.specs.Program.{programOf};
 ghost use Rattle.machine.specs.Memory.{spaces, lengthsOf, valueAt};
 ghost use Rattle.machine.specs.Effect.{operationAt};
 ghost use Rattle.run_plan.specs.Plans.{control, movePlan, branchPlan, dataPlan, planned, Movable, Branching, Computable};
 ghost use Rattle.run_plan.specs.Valid.{Valid};
+use arithmetic::opcodes::FIRST_INTEGER;
 use arithmetic::operands::is_division;
 use arithmetic::value;
 use integer::boolean::both;
 use integer::boolean::flag;
-use operation::layout::Lengths;
 use operation::layout::Settings;
 use operation::layout::Varnode;
+use operation::layout::absent;
 use operation::layout::opcode_at;
 use operation::layout::varnode_at;
 use operation::rules::accesses;
 use operation::rules::branches;
 use operation::rules::jumps;
 use operation::rules::length_of;
+use run_memory::space::lengths_of;
 use run_memory::varnode::read_input0;
 use run_memory::varnode::read_input1;
 use run_memory::varnode::read_moved;
@@ -45,24 +48,20 @@ pub struct Plan {
 fn control(stop: u64, next: usize, due: bool, low: u64, value: u64) -> Plan
     ensures { λ r. ⌜ r ≡ control stop next due low value ⌝ }
 {
-    let absent = Varnode {
-        space: 0,
-        offset: 0,
-        size: 0,
-    };
+    let target = absent();
     Plan {
         stop: stop,
         next: next,
         due: due,
         low: low,
-        target: absent,
+        target: target,
         value: value,
     }
 }
 
 // A plan that writes a value and goes on at the next operation.
 fn writes(i: usize, due: bool, low: u64, target: Varnode, value: u64) -> Plan
-    requires { ⌜ i < 4096 ⌝ }
+    requires { ⌜ i < mostOperations ⌝ }
     ensures { λ r. ⌜ r ≡ record { stop = 0; next = i + 1; due = due; low = low; target = target; value = value } ⌝ }
 {
     Plan {
@@ -77,7 +76,7 @@ fn writes(i: usize, due: bool, low: u64, target: Varnode, value: u64) -> Plan
 
 // BRANCH, CALL and, by its condition, CBRANCH.
 fn branch_at(list: &[u64], i: usize, condition: u64) -> Plan
-    requires { ⌜ (wordsPerOperation * i + wordsPerOperation ≤ length (now list)) × (i < 4096) × Branching (operationAt (now list) i) ⌝ }
+    requires { ⌜ (wordsPerOperation * i + wordsPerOperation ≤ length (now list)) × (i < mostOperations) × Branching (operationAt (now list) i) ⌝ }
     ensures { λ r. ⌜ r ≡ branchPlan (operationAt (now (list .entry)) i) i condition ⌝ }
 {
     let conditional = opcode_at(list, i) == 5;
@@ -96,12 +95,12 @@ fn branch_at(list: &[u64], i: usize, condition: u64) -> Plan
 // All operations but LOAD, STORE, BRANCH, CBRANCH and CALL, on the values a of input0 and b of input1. The first test tells most
 // operations from COPY and the exits.
 fn data_at(list: &[u64], i: usize, a: u64, b: u64) -> Plan
-    requires { ⌜ (wordsPerOperation * i + wordsPerOperation ≤ length (now list)) × (i < 4096) × Computable (operationAt (now list) i) a b ⌝ }
+    requires { ⌜ (wordsPerOperation * i + wordsPerOperation ≤ length (now list)) × (i < mostOperations) × Computable (operationAt (now list) i) a b ⌝ }
     ensures { λ r. ⌜ r ≡ dataPlan (operationAt (now (list .entry)) i) i a b ⌝ }
 {
     let opcode = opcode_at(list, i);
     let output = varnode_at(list, i, 0);
-    if opcode < 10 {
+    if opcode < FIRST_INTEGER {
         if jumps(opcode) {
             return control(1, i, false, 0, a);
         }
@@ -133,7 +132,7 @@ fn move_at<'a>(
     i: usize,
     pointer: u64,
 ) -> Plan
-    requires { ⌜ (wordsPerOperation * i + wordsPerOperation ≤ length (now list)) × (i < 4096)
+    requires { ⌜ (wordsPerOperation * i + wordsPerOperation ≤ length (now list)) × (i < mostOperations)
         × Movable (spaces (now unique) (now register) (now ram)) (operationAt (now list) i) ⌝ }
     ensures { λ r. ⌜ r ≡ movePlan (programOf settings (now (list .entry))) (spaces (now (unique .entry)) (now (register .entry)) (now (ram .entry))) (operationAt (now (list .entry)) i) i pointer ⌝ }
 {
@@ -143,22 +142,18 @@ fn move_at<'a>(
     let input2 = varnode_at(list, i, 3);
     let moved = choose(loads, output, input2);
     let space = input0.offset;
-    let there = Varnode {
+    let pointee = Varnode {
         space: space,
         offset: pointer,
         size: moved.size,
     };
-    let lengths = Lengths {
-        unique: unique.len() as u64,
-        register: register.len() as u64,
-        ram: ram.len() as u64,
-    };
+    let lengths = lengths_of(unique, register, ram);
     if !within(pointer, moved.size, length_of(lengths, space)) {
         return control(32, i, false, 0, 0);
     }
-    let from = choose(loads, there, input2);
+    let from = choose(loads, pointee, input2);
     let x = read_moved(settings, unique, register, ram, from);
-    let to = choose(loads, output, there);
+    let to = choose(loads, output, pointee);
     writes(i, true, pointer, to, x)
 }
 
@@ -196,7 +191,7 @@ pub fn plan_at<'a>(
 fn class_of(opcode: u64) -> u64
     ensures { λ r. ⌜ (eqb r 1 ≡ accesses opcode) × (eqb r 2 ≡ branches opcode) ⌝ }
 {
-    if 9 < opcode {
+    if FIRST_INTEGER <= opcode {
         return 0;
     }
     if accesses(opcode) {

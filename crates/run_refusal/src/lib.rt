@@ -1,15 +1,19 @@
 // What is refused before anything runs.
 ghost use mathlib.Core.Path.{_≡_};
-ghost use mathlib.Core.Bool.{true};
+ghost use mathlib.Core.Bool.{true, cond, not, _&&_};
 ghost use Prim.Native.Nat.{max};
+ghost use Rattle.validation.specs.Verdict.{settingsInRange, lengthsInRange};
 ghost use Rattle.machine.specs.Memory.{spaces, lengthsOf};
 ghost use Rattle.machine.specs.Calls.{sameLengths, allLabels, labelsInRange, refusal};
+use integer::boolean::both;
+use integer::boolean::pick;
 use operation::layout::Lengths;
 use operation::layout::Settings;
+use operation::layout::operation_count;
 use operation::report::Report;
+use run_memory::space::lengths_of;
 use validation::first_malformed;
 use validation::lengths_in_range;
-use validation::operation_count;
 use validation::refusal_report;
 use validation::settings_in_range;
 
@@ -60,16 +64,6 @@ pub fn labelled_refusal(
     refusal(settings, lengths, list, start, fitting, valid)
 }
 
-fn lengths_of(unique: &[u8], register: &[u8], ram: &[u8]) -> Lengths
-    ensures { λ r. ⌜ r ≡ lengthsOf (spaces (now (unique .entry)) (now (register .entry)) (now (ram .entry))) ⌝ }
-{
-    Lengths {
-        unique: unique.len() as u64,
-        register: register.len() as u64,
-        ram: ram.len() as u64,
-    }
-}
-
 // The refusals in their order, as a report; its ending is 0 where nothing is refused. `fitting` and `valid` say that no label calls
 // for 11 or for 12.
 fn refusal(
@@ -82,53 +76,49 @@ fn refusal(
 ) -> Report
     ensures { λ r. ⌜ r ≡ refusal settings lengths (now (list .entry)) start fitting valid ⌝ }
 {
-    if !settings_in_range(settings) {
-        return refusal_report(10, 0);
-    }
-    if !lengths_in_range(lengths, list) {
-        return refusal_report(11, 0);
-    }
-    if !fitting {
-        return refusal_report(11, 0);
-    }
-    if !valid {
-        return refusal_report(12, 0);
+    let early = early_ending(settings, lengths, list, fitting, valid);
+    if early != 0 {
+        return refusal_report(early, 0);
     }
     let found = first_malformed(settings.address_size, lengths, list);
     if found.rule != 0 {
         return refusal_report(found.rule, found.index);
     }
     let count = operation_count(list) as u64;
-    if count < start {
-        return refusal_report(27, 0);
-    }
-    refusal_report(0, 0)
+    refusal_report(pick(count < start, 27, 0), 0)
+}
+
+// 10, 11 or 12, which come before the list is looked at, or 0.
+fn early_ending(
+    settings: Settings,
+    lengths: Lengths,
+    list: &[u64],
+    fitting: bool,
+    valid: bool,
+) -> u64
+    ensures { λ r. ⌜ r ≡ cond (not (settingsInRange settings)) 10 (cond (not (lengthsInRange lengths (now (list .entry)) && fitting)) 11 (cond (not valid) 12 0)) ⌝ }
+{
+    let in_range = both(lengths_in_range(lengths, list), fitting);
+    let unlabelled = pick(!in_range, 11, pick(!valid, 12, 0));
+    pick(!settings_in_range(settings), 10, unlabelled)
 }
 
 // 11 LENGTH, for labels: label and space lengths unequal.
 fn same_lengths(a: Lengths, b: Lengths) -> bool
     ensures { λ r. ⌜ r ≡ sameLengths a b ⌝ }
 {
-    if a.unique != b.unique {
-        return false;
-    }
-    if a.register != b.register {
-        return false;
-    }
-    a.ram == b.ram
+    both(
+        both(a.unique == b.unique, a.register == b.register),
+        a.ram == b.ram,
+    )
 }
 
 // 12 LABEL: a label not 0 or 1.
 fn labels_in_range(unique: &[u8], register: &[u8], ram: &[u8]) -> bool
     ensures { λ r. ⌜ r ≡ labelsInRange (spaces (now (unique .entry)) (now (register .entry)) (now (ram .entry))) ⌝ }
 {
-    if !all_labels(unique) {
-        return false;
-    }
-    if !all_labels(register) {
-        return false;
-    }
-    all_labels(ram)
+    let two = both(all_labels(unique), all_labels(register));
+    both(two, all_labels(ram))
 }
 
 // Each label is 0 or 1: so the largest is. A loop that left at the first other one would take one label at a time.

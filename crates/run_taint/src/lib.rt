@@ -9,9 +9,11 @@ ghost use Rattle.machine.specs.Conditions.{hasSecret, leaks, destinationBytes, 
 ghost use Rattle.run_memory.specs.Placed.{Placed};
 ghost use Rattle.run_plan.specs.Valid.{Valid};
 ghost use Rattle.run_taint.specs.Taint.{Readable};
+use arithmetic::opcodes::FIRST_INTEGER;
 use arithmetic::operands::is_division;
 use integer::boolean::either;
 use operation::layout::Varnode;
+use operation::layout::absent;
 use operation::layout::opcode_at;
 use operation::layout::varnode_at;
 use operation::rules::accesses;
@@ -40,7 +42,7 @@ fn sink_at(list: &[u64], i: usize) -> Varnode
     ensures place { λ r. ⌜ ((labels : Memory) → Valid (lengthsOf labels) (now (list .entry)) → i < operationCount (now (list .entry)) → Placed labels r) ⌝ }
 {
     let opcode = opcode_at(list, i);
-    if 9 < opcode {
+    if FIRST_INTEGER <= opcode {
         if is_division(opcode) {
             return varnode_at(list, i, 2);
         }
@@ -53,16 +55,6 @@ fn sink_at(list: &[u64], i: usize) -> Varnode
         return varnode_at(list, i, 1);
     }
     absent()
-}
-
-fn absent() -> Varnode
-    ensures { λ r. ⌜ r ≡ absent ⌝ }
-{
-    Varnode {
-        space: 0,
-        offset: 0,
-        size: 0,
-    }
 }
 
 // The bytes at a pointer, in the space that input0 names.
@@ -104,7 +96,7 @@ pub fn becomes_secret<'a>(
     ensures { λ r. ⌜ r ≡ becomesSecret (spaces (now (unique .entry)) (now (register .entry)) (now (ram .entry))) (operationAt (now (list .entry)) i) pointer ⌝ }
 {
     let opcode = opcode_at(list, i);
-    if 9 < opcode {
+    if FIRST_INTEGER <= opcode {
         let first = has_secret(unique, register, ram, varnode_at(list, i, 1));
         return either(
             first,

@@ -1,6 +1,8 @@
 // Showing a varnode.
 ghost use mathlib.Core.Path.{_≡_};
 ghost use Rattle.show.specs.Show.{view, showable, shownIn, shown};
+use integer::boolean::both;
+use word::size::is_size;
 use word::size::within;
 
 // The bytes of a varnode, as that very part of its space; an empty part where it has none.
@@ -37,11 +39,5 @@ fn shown_in<'a>(s: &'a [u8], offset: u64, size: u64) -> &'a [u8]
 fn showable(n: usize, offset: u64, size: u64) -> bool
     ensures { λ r. ⌜ r ≡ showable n offset size ⌝ }
 {
-    if size < 1 {
-        return false;
-    }
-    if 8 < size {
-        return false;
-    }
-    within(offset, size, n as u64)
+    both(is_size(size), within(offset, size, n as u64))
 }

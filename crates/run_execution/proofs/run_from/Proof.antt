@@ -8,8 +8,8 @@ use Rattle.machine.specs.Program.{programOf}
 use Rattle.machine.specs.Memory.{spaces, lengthsOf}
 use Rattle.run_plan.proofs.Places.{of-bytes}
 use Rattle.run_execution.proofs.Running.{Going, begun, at-end, at-budget, may-plan, at-stop, at-full, may-log, may-push, may-write, logs-kept, at-exit, at-next}
-use Rattle.validation.proofs.operation_count.Reads as operation-count-reads
-use Rattle.run_execution.proofs.report.Reads as report-reads
+use Rattle.operation.proofs.layout.operation_count.Reads as operation-count-reads
+use Rattle.operation.proofs.report.run_report.Reads as run-report-reads
 use Rattle.run_plan.proofs.plan_at.Reads as plan-at-reads
 use Rattle.integer.proofs.boolean.both.Reads as both-reads
 use Rattle.run_execution.proofs.log_word.Reads as log-word-reads
@@ -34,8 +34,8 @@ abbrev calls : lts.Claims
 calls = (
   operation-count-reads.Asked,
   operation-count-reads.Learnt,
-  report-reads.Asked,
-  report-reads.Learnt,
+  run-report-reads.Asked,
+  run-report-reads.Learnt,
   plan-at-reads.Asked,
   plan-at-reads.Learnt,
   both-reads.Asked,
@@ -88,8 +88,8 @@ loop-holds c =
           (λ j. at-slice-known3 .slice-known3 .given j .fits)) (entry .pre .2),
     )
 
-report-requires : tie.Need-report-requires Inv-loop μ-loop
-report-requires c κs = search needs
+run-report-requires : tie.Need-run-report-requires Inv-loop μ-loop
+run-report-requires c κs = search needs
 
 same-length : tie.Need-same-length Inv-loop μ-loop
 unfolding lengthsOf
@@ -118,10 +118,10 @@ returns : tie.Need-returns Inv-loop μ-loop
 returns c =
     let within1 = c .before in
     let at-loop = within1 .before in
-    rw (c .report .ensures) (at-end _ _ _ _ _ _ _ _ _ _ _ (at-loop .loop .inv .1) (within1 .if1 .taken ∙ at-loop .loop .inv .0))
+    rw (c .run-report .ensures) (at-end _ _ _ _ _ _ _ _ _ _ _ (at-loop .loop .inv .1) (within1 .if1 .taken ∙ at-loop .loop .inv .0))
 
-report-requires-2 : tie.Need-report-requires-2 Inv-loop μ-loop
-report-requires-2 c κs = search needs
+run-report-requires-2 : tie.Need-run-report-requires-2 Inv-loop μ-loop
+run-report-requires-2 c κs = search needs
 
 same-length-5 : tie.Need-same-length-5 Inv-loop μ-loop
 unfolding lengthsOf
@@ -151,7 +151,7 @@ returns-2 c =
     let within2 = c .before in
     let past1 = within2 .before in
     let at-loop = past1 .before in
-    rw (c .report2 .ensures) (at-budget _ _ _ _ _ _ _ _ _ _ _ (at-loop .loop .inv .1) (λ e. past1 .if1 .left (e ∙ sym (at-loop .loop .inv .0))) (within2 .if2 .taken))
+    rw (c .run-report2 .ensures) (at-budget _ _ _ _ _ _ _ _ _ _ _ (at-loop .loop .inv .1) (λ e. past1 .if1 .left (e ∙ sym (at-loop .loop .inv .0))) (within2 .if2 .taken))
 
 plan-at-requires : tie.Need-plan-at-requires Inv-loop μ-loop
 plan-at-requires c κs =
@@ -160,8 +160,8 @@ plan-at-requires c κs =
     let at-loop = past1 .before in
     may-plan _ _ _ _ _ _ _ _ _ _ _ (at-loop .loop .inv .1) (λ e. past1 .if1 .left (e ∙ sym (at-loop .loop .inv .0))) (past2 .if2 .left)
 
-report-requires-3 : tie.Need-report-requires-3 Inv-loop μ-loop
-report-requires-3 c κs = search needs
+run-report-requires-3 : tie.Need-run-report-requires-3 Inv-loop μ-loop
+run-report-requires-3 c κs = search needs
 
 same-length-9 : tie.Need-same-length-9 Inv-loop μ-loop
 unfolding lengthsOf
@@ -189,15 +189,15 @@ same-length-12 c =
 returns-3 : tie.Need-returns-3 Inv-loop μ-loop
 returns-3 c =
     let at-plan = c .before .before .before in
-    rw (c .report3 .ensures)
+    rw (c .run-report3 .ensures)
     (at-stop _ _ _ _ _ _ _ _ _ _ _ (loop-of at-plan .loop .inv .1) (λ e. more-of at-plan .if1 .left (e ∙ sym (loop-of at-plan .loop .inv .0)))
     (left-of at-plan .if2 .left) _ (at-plan .plan-at .ensures) (c .before .if3 .taken))
 
 both-requires : tie.Need-both-requires Inv-loop μ-loop
 both-requires c κs = search needs
 
-report-requires-4 : tie.Need-report-requires-4 Inv-loop μ-loop
-report-requires-4 c κs = search needs
+run-report-requires-4 : tie.Need-run-report-requires-4 Inv-loop μ-loop
+run-report-requires-4 c κs = search needs
 
 same-length-13 : tie.Need-same-length-13 Inv-loop μ-loop
 unfolding lengthsOf
@@ -230,7 +230,7 @@ returns-4 : tie.Need-returns-4 Inv-loop μ-loop
 returns-4 c =
     let at-struct-known = c .before .before .before .before in
     let at-plan = at-struct-known .before in
-    rw (c .report4 .ensures)
+    rw (c .run-report4 .ensures)
     (at-full _ _ _ _ _ _ _ _ _ _ _ (loop-of at-plan .loop .inv .1) (λ e. more-of at-plan .if1 .left (e ∙ sym (loop-of at-plan .loop .inv .0)))
     (left-of at-plan .if2 .left) _ (at-plan .plan-at .ensures)
     (c .before .before .before .if3 .left) _ (c .before .before .both .ensures) (c .before .if4 .taken))
@@ -257,8 +257,8 @@ add-executed c =
     let h = loop-of at-plan .loop .inv .1 .spent in
     omega (arith, entry-of (loop-of at-plan) .fits .budget)
 
-report-requires-5 : tie.Need-report-requires-5 Inv-loop μ-loop
-report-requires-5 c κs = search needs
+run-report-requires-5 : tie.Need-run-report-requires-5 Inv-loop μ-loop
+run-report-requires-5 c κs = search needs
 
 same-length-17 : tie.Need-same-length-17 Inv-loop μ-loop
 unfolding lengthsOf
@@ -304,7 +304,7 @@ returns-5 c =
     let at-push = at-log .before in
     let past4 = due-of at-push in
     let at-plan = plan-of past4 in
-    rw (c .report5 .ensures)
+    rw (c .run-report5 .ensures)
     (at-exit _ _ _ _ _ _ _ _ _ _ _ (loop-of at-plan .loop .inv .1) (λ e. more-of at-plan .if1 .left (e ∙ sym (loop-of at-plan .loop .inv .0)))
     (left-of at-plan .if2 .left) _ (at-plan .plan-at .ensures)
     (past4 .before .before .if3 .left) _ (past4 .before .both .ensures)
@@ -357,27 +357,27 @@ run-from-spec =
     μ-loop
     operation-count-requires
     loop-holds
-    report-requires
+    run-report-requires
     same-length
     same-length-2
     same-length-3
     same-length-4
     returns
-    report-requires-2
+    run-report-requires-2
     same-length-5
     same-length-6
     same-length-7
     same-length-8
     returns-2
     plan-at-requires
-    report-requires-3
+    run-report-requires-3
     same-length-9
     same-length-10
     same-length-11
     same-length-12
     returns-3
     both-requires
-    report-requires-4
+    run-report-requires-4
     same-length-13
     same-length-14
     same-length-15
@@ -386,7 +386,7 @@ run-from-spec =
     log-word-requires
     push-requires
     add-executed
-    report-requires-5
+    run-report-requires-5
     same-length-17
     same-length-18
     same-length-19

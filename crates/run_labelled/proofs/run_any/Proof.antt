@@ -6,7 +6,7 @@ use borrow.Author.Tests.{not-true, not-false}
 use Rattle.operation.specs.declared.layout.Lengths.{Lengths}
 use Rattle.machine.specs.Program.{programOf}
 use Rattle.machine.specs.Memory.{spaces, lengthsOf}
-use Rattle.run_execution.proofs.report.Reads as report-reads
+use Rattle.operation.proofs.report.run_report.Reads as run-report-reads
 use Rattle.integer.proofs.boolean.both.Reads as both-reads
 use Rattle.run_labelled.proofs.step_at.Reads as step-at-reads
 use Rattle.run_labelled.proofs.turn.Reads as turn-reads
@@ -34,8 +34,8 @@ calls = (
   step-at-reads.Learnt,
   both-reads.Asked,
   both-reads.Learnt,
-  report-reads.Asked,
-  report-reads.Learnt,
+  run-report-reads.Asked,
+  run-report-reads.Learnt,
 )
 
 -- ---- places: after a turn, at the loop, at the start
@@ -86,8 +86,8 @@ add-executed c =
 both-requires : tie.Need-both-requires Inv-loop μ-loop
 both-requires c κs = search needs
 
-report-requires : tie.Need-report-requires Inv-loop μ-loop
-report-requires c κs = search needs
+run-report-requires : tie.Need-run-report-requires Inv-loop μ-loop
+run-report-requires c κs = search needs
 
 same-length : tie.Need-same-length Inv-loop μ-loop
 unfolding lengthsOf
@@ -141,7 +141,7 @@ returns : tie.Need-returns Inv-loop μ-loop
 returns c =
     let at-step = step-of (c .before .before .before .before) in
     let at-loop = loop-of at-step in
-    rw (c .report .ensures)
+    rw (c .run-report .ensures)
     (at-ended _ _ _ _ _ _ _ _ _ _ _ _ _ _ (at-loop .loop .inv) _ (at-loop .before .turn .ensures) _ _ _ _ (at-step .step-at .ensures)
     (sym (c .before .before .both .ensures) ∙ not-true _ (c .before .if1 .taken)))
 
@@ -168,7 +168,7 @@ run-any-spec =
     step-at-requires
     add-executed
     both-requires
-    report-requires
+    run-report-requires
     same-length
     same-length-2
     same-length-3

@@ -14,8 +14,8 @@ leaks-within-requires c κs =
     let pre = entry .pre in
     (labels-valid (pre .0) (pre .3), pre .1)
 
-report-requires : tie.Need-report-requires
-report-requires c κs = search needs
+run-report-requires : tie.Need-run-report-requires
+run-report-requires c κs = search needs
 
 same-length : tie.Need-same-length
 same-length c = search needs
@@ -38,7 +38,7 @@ returns c =
     let pre = entry .pre in
     leaked-turn _ (programOf (entry .args .settings) _) _ _ _ _ _ _ (λ j. at-shared-slice-known .shared-slice-known .given j .fits)
     (of-bytes _ _ _ (λ j. at-slice-known .slice-known .given j .fits) (λ j. at-slice-known2 .slice-known2 .given j .fits)
-    (λ j. at-slice-known3 .slice-known3 .given j .fits)) (pre .0) (pre .2) (pre .3) (pre .4) _ (at-leaks-within .leaks-within .ensures) (c .before .if1 .taken) _ (c .report .ensures)
+    (λ j. at-slice-known3 .slice-known3 .given j .fits)) (pre .0) (pre .2) (pre .3) (pre .4) _ (at-leaks-within .leaks-within .ensures) (c .before .if1 .taken) _ (c .run-report .ensures)
 
 run-from-requires : tie.Need-run-from-requires
 run-from-requires c κs =
@@ -125,7 +125,7 @@ step-at-spec =
     tie.close
     (tie.spec
     leaks-within-requires
-    report-requires
+    run-report-requires
     same-length
     same-length-2
     same-length-3

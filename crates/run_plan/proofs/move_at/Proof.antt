@@ -1,7 +1,9 @@
 -- `run_plan::move_at` meets its contract.
 use Rattle.machine.specs.Effect.{operationAt}
 use Rattle.machine.specs.Program.{programOf}
-use Rattle.machine.specs.Memory.{lengthsOf}
+use mathlib.Core.Path.{ap, _∙_}
+use Rattle.operation.specs.declared.layout.Lengths.{Lengths}
+use Rattle.operation.specs.Rules.{lengthOf}
 use Rattle.run_plan.proofs.Planning.{code-outside, may-read, code-moves}
 use borrow.Author.Needs.{needs}
 use Rattle.run_plan.proofs.move_at.Statement.{statement}
@@ -22,6 +24,9 @@ varnode-at-requires-3 c κs = search needs
 choose-requires : tie.Need-choose-requires
 choose-requires c κs = search needs
 
+lengths-of-requires : tie.Need-lengths-of-requires
+lengths-of-requires c κs = search needs
+
 length-of-requires : tie.Need-length-of-requires
 length-of-requires c κs = search needs
 
@@ -32,30 +37,32 @@ control-requires : tie.Need-control-requires
 control-requires c κs = search needs
 
 returns : tie.Need-returns
-unfolding operationAt lengthsOf
+unfolding operationAt
 returns c =
     let tested = c .before .before in
-    let sized = tested .before .before in
+    let measured = tested .before .before in
+    let sized = measured .before in
     let decoded = sized .before .before .before .before in
     let entry = decoded .before .before .before .before in
     code-outside _ _ _ _ _ _ _ _ (decoded .opcode-at .ensures) (sized .before .before .before .varnode-at .ensures)
     (sized .before .before .varnode-at2 .ensures) (sized .before .varnode-at3 .ensures) (sized .choose .ensures) (entry .before .pre .2)
-    _ (tested .before .length-of .ensures) _ (tested .within .ensures)
+    _ (tested .before .length-of .ensures ∙ ap (λ (l : Lengths). lengthOf l (sized .before .before .varnode-at2 .result .offset)) (measured .lengths-of .ensures)) _ (tested .within .ensures)
     (programOf (entry .before .args .settings) _) _ _ (c .before .if1 .taken) (c .control .ensures)
 
 choose-requires-2 : tie.Need-choose-requires-2
 choose-requires-2 c κs = search needs
 
 read-moved-requires : tie.Need-read-moved-requires
-unfolding operationAt lengthsOf
+unfolding operationAt
 read-moved-requires c κs =
     let tested = c .before .before in
-    let sized = tested .before .before in
+    let measured = tested .before .before in
+    let sized = measured .before in
     let decoded = sized .before .before .before .before in
     let entry = decoded .before .before .before .before in
     may-read _ _ _ _ _ _ _ _ (decoded .opcode-at .ensures) (sized .before .before .before .varnode-at .ensures)
     (sized .before .before .varnode-at2 .ensures) (sized .before .varnode-at3 .ensures) (sized .choose .ensures) (entry .before .pre .2)
-    _ (tested .before .length-of .ensures) _ (tested .within .ensures)
+    _ (tested .before .length-of .ensures ∙ ap (λ (l : Lengths). lengthOf l (sized .before .before .varnode-at2 .result .offset)) (measured .lengths-of .ensures)) _ (tested .within .ensures)
     (c .before .if1 .left) _ (c .choose2 .ensures)
 
 choose-requires-3 : tie.Need-choose-requires-3
@@ -64,22 +71,24 @@ choose-requires-3 c κs = search needs
 writes-requires : tie.Need-writes-requires
 writes-requires c κs =
     let tested = c .before .before .before .before in
-    let sized = tested .before .before in
+    let measured = tested .before .before in
+    let sized = measured .before in
     let decoded = sized .before .before .before .before in
     let entry = decoded .before .before .before .before in
     entry .before .pre .1
 
 returns-2 : tie.Need-returns-2
-unfolding operationAt lengthsOf
+unfolding operationAt
 returns-2 c =
     let inside = c .before .before .before .before in
     let tested = inside .before in
-    let sized = tested .before .before in
+    let measured = tested .before .before in
+    let sized = measured .before in
     let decoded = sized .before .before .before .before in
     let entry = decoded .before .before .before .before in
     code-moves _ _ _ _ _ _ _ _ (decoded .opcode-at .ensures) (sized .before .before .before .varnode-at .ensures)
     (sized .before .before .varnode-at2 .ensures) (sized .before .varnode-at3 .ensures) (sized .choose .ensures) (entry .before .pre .2)
-    _ (tested .before .length-of .ensures) _ (tested .within .ensures)
+    _ (tested .before .length-of .ensures ∙ ap (λ (l : Lengths). lengthOf l (sized .before .before .varnode-at2 .result .offset)) (measured .lengths-of .ensures)) _ (tested .within .ensures)
     (inside .if1 .left) _ (c .before .before .before .choose2 .ensures) (programOf (entry .before .args .settings) _) _ _ _
     (c .before .before .read-moved .ensures) _ (c .before .choose3 .ensures) (c .writes .ensures)
 
@@ -92,6 +101,7 @@ move-at-spec =
     varnode-at-requires-2
     varnode-at-requires-3
     choose-requires
+    lengths-of-requires
     length-of-requires
     within-requires
     control-requires

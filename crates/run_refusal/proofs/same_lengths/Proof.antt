@@ -1,20 +1,21 @@
 -- `run_refusal::same_lengths` meets its contract.
-use borrow.Author.Tests.{eq-eqb, ne-eqb}
+use mathlib.Core.Path.{refl}
+use borrow.Author.Needs.{needs}
 use Rattle.machine.specs.Calls.{sameLengths}
 use Rattle.run_refusal.proofs.same_lengths.Statement.{statement}
 use Rattle.run_refusal.proofs.same_lengths.Tie as tie
 
+both-requires : tie.Need-both-requires
+both-requires c κs = search needs
+
+both-requires-2 : tie.Need-both-requires-2
+both-requires-2 c κs = search needs
+
 returns : tie.Need-returns
 unfolding sameLengths
-returns c = rw (ne-eqb _ _ (c .if1 .taken))
-
-returns-2 : tie.Need-returns-2
-unfolding sameLengths
-returns-2 c = rw (eq-eqb _ _ (c .before .before .before .if1 .left), ne-eqb _ _ (c .if2 .taken))
-
-returns-3 : tie.Need-returns-3
-unfolding sameLengths
-returns-3 c = rw (eq-eqb _ _ (c .before .before .before .before .before .if1 .left), eq-eqb _ _ (c .before .before .if2 .left))
+returns c =
+    let at-both = c .before .before .before in
+    rw (c .both2 .ensures, at-both .both .ensures) refl
 
 pub same-lengths-spec : {M : Type 1} → statement M
-same-lengths-spec = tie.close (tie.spec returns returns-2 returns-3)
+same-lengths-spec = tie.close (tie.spec both-requires both-requires-2 returns)

@@ -34,7 +34,7 @@ returns-2 c =
     let divided = c .before .before in
     let decoded = divided .before .before in
     let n = decoded .opcode-at .result in
-    exactStep _ _ _ (c .omitted .ensures
+    exactStep _ _ _ (c .absent .ensures
     ∙ rw (← decoded .opcode-at .ensures) (sym (watched-late n _ _ (divided .before .if1 .taken) ∙ rw (← divided .is-division .ensures, c .before .if2 .left) refl)))
 
 accesses-requires : tie.Need-accesses-requires

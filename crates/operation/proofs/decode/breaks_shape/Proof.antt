@@ -1,5 +1,6 @@
 -- `operation::decode::breaks_shape` meets its contract.
 use mathlib.Core.Path.{_∙_}
+use borrow.Author.Tests.{eq-eqb, ne-eqb}
 use borrow.Author.Needs.{needs}
 use Rattle.operation.proofs.Decoding.{shape-broken}
 use Rattle.operation.proofs.decode.breaks_shape.Statement.{statement}
@@ -8,28 +9,31 @@ use Rattle.operation.proofs.decode.breaks_shape.Tie as tie
 either-requires : tie.Need-either-requires
 either-requires c κs = search needs
 
+returns : tie.Need-returns
+returns c =
+    let a = c .before .before .args in
+    c .either .ensures ∙ (rw (eq-eqb (a .descriptor) 0 (c .before .if1 .taken)) at (shape-broken (a .wanted) (a .descriptor) (a .offset)))
+
 describes-varnode-requires : tie.Need-describes-varnode-requires
 describes-varnode-requires c κs = search needs
 
 either-requires-2 : tie.Need-either-requires-2
 either-requires-2 c κs = search needs
 
-pick-test-requires : tie.Need-pick-test-requires
-pick-test-requires c κs = search needs
-
-returns : tie.Need-returns
-returns c =
-    let at-present = c .before in
-    let at-described = at-present .before in
-    c .pick-test .ensures
-    ∙ rw (at-described .before .either .ensures, at-present .either2 .ensures, at-described .describes-varnode .ensures) (shape-broken _ _ _)
+returns-2 : tie.Need-returns-2
+returns-2 c =
+    let at-described = c .before in
+    let present = at-described .before in
+    let a = present .before .args in
+    c .either2 .ensures
+    ∙ rw (at-described .describes-varnode .ensures) (rw (ne-eqb (a .descriptor) 0 (present .if1 .left)) at (shape-broken (a .wanted) (a .descriptor) (a .offset)))
 
 pub breaks-shape-spec : {M : Type 1} → statement M
 breaks-shape-spec =
     tie.close
     (tie.spec
     either-requires
+    returns
     describes-varnode-requires
     either-requires-2
-    pick-test-requires
-    returns)
+    returns-2)

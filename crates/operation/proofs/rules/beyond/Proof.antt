@@ -1,9 +1,22 @@
 -- `operation::rules::beyond` meets its contract.
-use mathlib.Core.Path.{refl}
+use mathlib.Core.Bool.{not}
+use mathlib.Core.Path.{sym, ap}
+use borrow.Author.Tests.{eq-eqb, ne-eqb}
 use borrow.Author.Needs.{needs}
 use Rattle.operation.specs.Rules.{beyond}
 use Rattle.operation.proofs.rules.beyond.Statement.{statement}
 use Rattle.operation.proofs.rules.beyond.Tie as tie
+
+returns : tie.Need-returns
+unfolding beyond
+returns c = rw (eq-eqb _ 0 (c .if1 .taken))
+
+holds-requires : tie.Need-holds-requires
+holds-requires c κs = search needs
+
+returns-2 : tie.Need-returns-2
+unfolding beyond
+returns-2 c = rw (ne-eqb _ 0 (c .before .before .if1 .left), eq-eqb _ 1 (c .before .if2 .taken)) (ap not (c .holds .ensures))
 
 length-of-requires : tie.Need-length-of-requires
 length-of-requires c κs = search needs
@@ -11,29 +24,19 @@ length-of-requires c κs = search needs
 within-requires : tie.Need-within-requires
 within-requires c κs = search needs
 
-holds-requires : tie.Need-holds-requires
-holds-requires c κs = search needs
-
-pick-test-requires : tie.Need-pick-test-requires
-pick-test-requires c κs = search needs
-
-pick-test-requires-2 : tie.Need-pick-test-requires-2
-pick-test-requires-2 c κs = search needs
-
-returns : tie.Need-returns
+returns-3 : tie.Need-returns-3
 unfolding beyond
-returns c =
-    let at-constant = c .before in
-    let at-within = at-constant .before .before in
-    rw (c .pick-test2 .ensures, at-constant .pick-test .ensures, at-constant .before .holds .ensures, at-within .within .ensures, at-within .before .length-of .ensures) refl
+returns-3 c =
+    let past-constant = c .before .before in
+    rw (ne-eqb _ 0 (past-constant .before .if1 .left), ne-eqb _ 1 (past-constant .if2 .left), sym (c .before .length-of .ensures)) (ap not (c .within .ensures))
 
 pub beyond-spec : {M : Type 1} → statement M
 beyond-spec =
     tie.close
     (tie.spec
+    returns
+    holds-requires
+    returns-2
     length-of-requires
     within-requires
-    holds-requires
-    pick-test-requires
-    pick-test-requires-2
-    returns)
+    returns-3)

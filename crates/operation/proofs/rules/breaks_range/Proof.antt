@@ -1,5 +1,5 @@
 -- `operation::rules::breaks_range` meets its contract.
-use mathlib.Core.Path.{refl}
+use mathlib.Core.Path.{refl, sym, _∙_}
 use borrow.Author.Needs.{needs}
 use Rattle.operation.specs.Rules.{breaksRange}
 use Rattle.operation.proofs.rules.breaks_range.Statement.{statement}
@@ -11,24 +11,21 @@ branches-requires c κs = search needs
 both-requires : tie.Need-both-requires
 both-requires c κs = search needs
 
-beyond-requires : tie.Need-beyond-requires
-beyond-requires c κs = search needs
-
-pick-test-requires : tie.Need-pick-test-requires
-pick-test-requires c κs = search needs
-
 returns : tie.Need-returns
 unfolding breaksRange
 returns c =
-    let at-exempt = c .before .before in
-    rw (c .pick-test .ensures, at-exempt .both .ensures, at-exempt .before .branches .ensures, c .before .beyond .ensures) refl
+    let exempt = rw (c .before .before .branches .ensures) at (c .before .both .ensures) in
+    rw (sym exempt ∙ c .if1 .taken) refl
+
+beyond-requires : tie.Need-beyond-requires
+beyond-requires c κs = search needs
+
+returns-2 : tie.Need-returns-2
+unfolding breaksRange
+returns-2 c =
+    let at-both = c .before .before in
+    let exempt = rw (at-both .before .branches .ensures) at (at-both .both .ensures) in
+    rw (sym exempt ∙ c .before .if1 .left) (c .beyond .ensures)
 
 pub breaks-range-spec : {M : Type 1} → statement M
-breaks-range-spec =
-    tie.close
-    (tie.spec
-    branches-requires
-    both-requires
-    beyond-requires
-    pick-test-requires
-    returns)
+breaks-range-spec = tie.close (tie.spec branches-requires both-requires returns beyond-requires returns-2)

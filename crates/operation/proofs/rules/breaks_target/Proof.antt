@@ -1,5 +1,5 @@
 -- `operation::rules::breaks_target` meets its contract.
-use mathlib.Core.Path.{refl}
+use mathlib.Core.Path.{refl, sym, _∙_}
 use borrow.Author.Needs.{needs}
 use Rattle.operation.specs.Rules.{breaksTarget}
 use Rattle.operation.proofs.rules.breaks_target.Statement.{statement}
@@ -14,14 +14,19 @@ both-requires c κs = search needs
 target-outside-requires : tie.Need-target-outside-requires
 target-outside-requires c κs = search needs
 
-both-requires-2 : tie.Need-both-requires-2
-both-requires-2 c κs = search needs
-
 returns : tie.Need-returns
 unfolding breaksTarget
 returns c =
-    let at-relative = c .before .before in
-    rw (c .both2 .ensures, at-relative .both .ensures, at-relative .before .branches .ensures, c .before .target-outside .ensures) refl
+    let at-both = c .before .before in
+    let relative = rw (at-both .before .before .branches .ensures) at (at-both .both .ensures) in
+    rw (sym relative ∙ c .before .if1 .taken) (c .target-outside .ensures)
+
+returns-2 : tie.Need-returns-2
+unfolding breaksTarget
+returns-2 c =
+    let at-both = c .before in
+    let relative = rw (at-both .before .before .branches .ensures) at (at-both .both .ensures) in
+    rw (sym relative ∙ c .if1 .left) refl
 
 pub breaks-target-spec : {M : Type 1} → statement M
 breaks-target-spec =
@@ -30,5 +35,5 @@ breaks-target-spec =
     branches-requires
     both-requires
     target-outside-requires
-    both-requires-2
-    returns)
+    returns
+    returns-2)

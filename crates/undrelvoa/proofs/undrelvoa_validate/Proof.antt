@@ -1,0 +1,31 @@
+-- `undrelvoa::undrelvoa_validate` meets its contract.
+use mathlib.Core.Path.{refl, _∙_}
+use borrow.Author.Tests.{le-leb, lt-leb}
+use borrow.Author.Needs.{needs}
+use Rattle.undrelvoa.specs.Buffers.{roomFault, reportLength}
+use Rattle.undrelvoa.specs.Answers.{verdictWords}
+use Rattle.undrelvoa.proofs.undrelvoa_validate.Statement.{statement}
+use Rattle.undrelvoa.proofs.undrelvoa_validate.Tie as tie
+
+returns : tie.Need-returns
+unfolding roomFault
+returns c = (rw (lt-leb reportLength _ (c .if1 .taken)) refl, refl)
+
+validate-requires : tie.Need-validate-requires
+validate-requires c κs = search needs
+
+write-report-requires : tie.Need-write-report-requires
+write-report-requires c κs = search needs
+
+same-length : tie.Need-same-length
+same-length c = search needs
+
+returns-2 : tie.Need-returns-2
+unfolding roomFault verdictWords
+returns-2 c =
+    let at-report = c .before .before in
+    let at-verdict = at-report .before .before in
+    (rw (le-leb reportLength _ (at-verdict .before .if1 .left)) refl, at-report .write-report .ensures ∙ rw (at-verdict .validate .ensures) refl)
+
+pub undrelvoa-validate-spec : {M : Type 1} → statement M
+undrelvoa-validate-spec = tie.close (tie.spec returns validate-requires write-report-requires same-length returns-2)

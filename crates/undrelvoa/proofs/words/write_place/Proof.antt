@@ -1,0 +1,42 @@
+-- `undrelvoa::words::write_place` meets its contract.
+use native.Mathlib.Omega.{arith}
+use borrow.Author.Needs.{needs}
+use lib.ListN.{length-set}
+use Rattle.undrelvoa.proofs.Shown.{place-words}
+use Rattle.undrelvoa.proofs.words.write_place.Statement.{statement}
+use Rattle.undrelvoa.proofs.words.write_place.Tie as tie
+
+pick-requires : tie.Need-pick-requires
+pick-requires c κs = search needs
+
+slice-write-words : tie.Need-slice-write-words
+slice-write-words c = search needs
+
+pick-requires-2 : tie.Need-pick-requires-2
+pick-requires-2 c κs = search needs
+
+slice-write-words-2 : tie.Need-slice-write-words-2
+slice-write-words-2 c = simp length-set (omega arith)
+
+slice-write-words-3 : tie.Need-slice-write-words-3
+slice-write-words-3 c = search needs
+
+same-length : tie.Need-same-length
+same-length c = search needs
+
+returns : tie.Need-returns
+returns c =
+    let a = c .before .before .before .args in
+    rw (c .pick2 .ensures, c .before .pick .ensures) (place-words (a .words .now) (a .space) (a .offset) (a .n))
+
+pub write-place-spec : {M : Type 1} → statement M
+write-place-spec =
+    tie.close
+    (tie.spec
+    pick-requires
+    slice-write-words
+    pick-requires-2
+    slice-write-words-2
+    slice-write-words-3
+    same-length
+    returns)

@@ -1,0 +1,51 @@
+-- Reports and buffers of the C interface.
+use Prim.Native.Nat.{ℕ}
+use mathlib.Core.Bool.{cond}
+use mathlib.Core.List.{List, [], _∷_}
+use lib.Dec.{leb}
+use lib.Seq.{sets}
+use Rattle.operation.specs.declared.layout.Settings.{Settings}
+use Rattle.operation.specs.declared.report.Report.{Report}
+use Rattle.machine.specs.Memory.{Memory}
+use Rattle.machine.specs.Calls.{Outcome, unlabelled}
+
+-- 11 where the answer has more words than the lent buffer.
+unfoldable pub roomFault : (words room : ℕ) → ℕ
+roomFault words room = cond (leb words room) 0 11
+
+-- Words of a report.
+abbrev pub reportLength : ℕ
+reportLength = 5
+
+-- A report in its words: ending, index, operations executed, log words written, value.
+unfoldable pub reportWords : Report → List ℕ
+reportWords r = r .ending ∷ r .index ∷ r .executed ∷ r .logged ∷ r .value ∷ []
+
+-- The settings of a call.
+abbrev pub settingsOf : (order addressSize : ℕ) → Settings
+settingsOf order addressSize = record { order = order; «address_size» = addressSize }
+
+-- The buffers lent to a run.
+pub record Buffers : Type 0 where
+  pub memory : Memory
+  pub labels : Memory
+  pub log : List ℕ
+  pub report : List ℕ
+
+-- Of a run without labels.
+abbrev pub plainBuffers : Memory → (log report : List ℕ) → Buffers
+plainBuffers m log report = record { memory = m; labels = unlabelled; log = log; report = report }
+
+-- Of a labelled run.
+abbrev pub labelledBuffers : (memory labels : Memory) → (log report : List ℕ) → Buffers
+labelledBuffers m labels log report = record { memory = m; labels = labels; log = log; report = report }
+
+-- What a run leaves in them, with the words of its report at the start of the report's buffer.
+unfoldable pub after : (report : List ℕ) → Outcome → Buffers
+after report outcome =
+    record {
+      memory = outcome .memory;
+      labels = outcome .labels;
+      log = outcome .log;
+      report = sets report 0 (reportWords (outcome .report));
+    }
