@@ -1,3 +1,4 @@
 pub mod Table
 pub mod Agreement
 pub mod Bounds
+pub mod Lookup

@@ -14,6 +14,7 @@ unfoldable pub wrap : (size : ℕ) → ℤ → ℕ
 wrap size (pos n) = n % 256 ^ size
 wrap size (negsuc n) = 256 ^ size - 1 - n % 256 ^ size
 
+-- An integer below 0.
 unfoldable pub negative : ℤ → Bool
 negative (pos n) = false
 negative (negsuc n) = true

@@ -6,6 +6,7 @@ use lib.IntN.{ℤ, natAbs, _+ℤ_, _*ℤ_}
 use Rattle.integer.specs.Integers.{signed, negative, quotient, remainder}
 use Rattle.integer.specs.Operations.{subpiece, intLeft, intRight, intSright, intSdiv, intSrem, boolNegate, boolXor, boolAnd, boolOr}
 
+-- A field for each of these lines.
 pub record LeftOpen : Type 0 where
   -- A shift by the width or more gives 0;
   pub shift-by-width : (size a b : ℕ) → 8 * size ≤ b → (intLeft size a b ≡ 0) × (intRight size a b ≡ 0)

@@ -7,6 +7,7 @@ use lib.IntN.{pos, _+ℤ_, _-ℤ_, _*ℤ_}
 use Rattle.integer.specs.Integers.{signed, wrap, negative}
 use Rattle.integer.specs.Operations.{flag, subpiece, popcount, intLess, intSext, intAdd, intSub, int2comp, intNegate, intLeft, intRight, intSright, intMult, intDiv, intRem, intSdiv, intSrem}
 
+-- A field for each of these sentences.
 pub record Manual : Type 0 where
   -- POPCOUNT: "A value of 0 returns 0, a 4-byte varnode containing the value 2^32-1 (all bits set) returns 32, for instance."
   pub bit-count : (size : ℕ) → (popcount size 0 ≡ 0) × (popcount size (256 ^ size - 1) ≡ 8 * size)

@@ -37,6 +37,7 @@ pub record PlainCall (settings : Settings) (list : List ℕ) (start budget : ℕ
 abbrev pub left : {settings : Settings} {list : List ℕ} {start budget : ℕ} → LabelledCall settings list start budget → Outcome
 left c = labelledOutcome (c .report) (c .memory′) (c .labels′) (c .log′)
 
+-- What a call of `run` left.
 abbrev pub plainLeft : {settings : Settings} {list : List ℕ} {start budget : ℕ} → PlainCall settings list start budget → Outcome
 plainLeft c = plainOutcome (c .report) (c .memory′) (c .log′)
 
@@ -68,6 +69,7 @@ pub record NoninterferentCalls (c : LowEquivalentCalls) : Type 0 where
   pub firstPlain : Labelled (c .first .labels) (c .first .memory) → (c .first .report .ending ≡ 31 → ⊥) → PlainAlike (left (c .first)) (plainLeft (c .firstPlain))
   pub secondPlain : Labelled (c .second .labels) (c .second .memory) → (c .second .report .ending ≡ 31 → ⊥) → PlainAlike (left (c .second)) (plainLeft (c .secondPlain))
 
+-- Demand 3, of every four such calls.
 abbrev pub CallsNoninterfere : Type 0
 CallsNoninterfere = (c : LowEquivalentCalls) → NoninterferentCalls c
 
@@ -81,6 +83,7 @@ LabelledCallsResume = (settings : Settings) (list : List ℕ) (start budget furt
     → whole .memory ≡ first .memory → whole .labels ≡ first .labels → whole .log ≡ first .log
     → Summed (left first) (left second) (left whole)
 
+-- The resume law, of every three such calls of `run`.
 abbrev pub PlainCallsResume : Type 0
 PlainCallsResume = (settings : Settings) (list : List ℕ) (start budget further : ℕ) (first : PlainCall settings list start budget)
     (second : PlainCall settings list (first .report .index) further) (whole : PlainCall settings list start (budget + further))

@@ -84,7 +84,7 @@ written-labels m v xs h e = by (eqb (v .space) 2) (eqb (v .space) 3) (eqb (v .sp
 data Fits (room : ℕ) : Decision → Type 0 where
   stops : {e : Stop} → Fits room (Decision.stop e)
   nexts : {words : List ℕ} {i : ℕ} → length words ≤ room → Fits room (Decision.next words i)
-  exits : {words : List ℕ} {d : ℕ} → length words ≤ room → Fits room (Decision.exit words d)
+  exited : {words : List ℕ} {d : ℕ} → length words ≤ room → Fits room (Decision.exit words d)
 
 logging-fits : (room word : ℕ) (d : List ℕ → Decision) → ((words : List ℕ) → length words ≤ room → Fits room (d words)) → Fits room (logging room word d)
 unfolding logging
@@ -96,7 +96,7 @@ logging-fits room word d h = by (eqb room 0) refl
 
 goto-fits : (room i : ℕ) (v : Varnode) (words : List ℕ) → length words ≤ room → Fits room (goTo i v words)
 unfolding goTo
-goto-fits room i v words h = either (Fits room) (eqb (v .space) 1) _ _ (nexts h) (exits h)
+goto-fits room i v words h = either (Fits room) (eqb (v .space) 1) _ _ (nexts h) (exited h)
 
 access-fits : (i extent room pointer size : ℕ) → Fits room (access i extent room pointer size)
 unfolding access
@@ -110,7 +110,7 @@ checked-fits Kind.store op i extent room x = access-fits i extent room x _
 checked-fits Kind.branch op i extent room x = goto-fits room i (op .input0) [] (omega arith)
 checked-fits Kind.cbranch op i extent room x =
     either (Fits room) (eqb x 0) _ _ (logging-fits room _ _ (λ words h. nexts h)) (logging-fits room _ _ (goto-fits room i (op .input0)))
-checked-fits Kind.jump op i extent room x = exits {words = []} (omega arith)
+checked-fits Kind.jump op i extent room x = exited {words = []} (omega arith)
 checked-fits Kind.piece op i extent room x = nexts {words = []} (omega arith)
 checked-fits Kind.subpiece op i extent room x = nexts {words = []} (omega arith)
 checked-fits Kind.divide op i extent room x = either (Fits room) (eqb x 0) _ _ stops (nexts {words = []} (omega arith))
@@ -143,7 +143,7 @@ module _ (words : ℕ) (spaces : Lengths) (marks : Memory) (program : Program) w
       → Kept words spaces marks at labels m → KeptStep (applyDecision program k op at labels m x d)
   unfolding applyDecision ended labelsWritten
   applied-kept k op at labels m x stops h = halts h
-  applied-kept k op at labels m x (exits l) h =
+  applied-kept k op at labels m x (exited l) h =
       halts (record { log = advanced-log at _ _ l (h .log); memory = h .memory; lengths = h .lengths; values = h .values })
   applied-kept k op at labels m x (nexts l) h =
       goes (record {

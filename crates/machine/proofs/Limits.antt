@@ -25,7 +25,7 @@ use Rattle.machine.proofs.Cases.{either}
 data Counts (at : Position) (labels m : Memory) : Stepped → Type 0 where
   stays : {r : Ended} → (10 ≤ r .ending → r .ending ≤ 27 → ⊥) → (r .ending ≡ 2 → ⊥) → r .position ≡ at → r .labels ≡ labels → r .memory ≡ m
       → Counts at labels m (Stepped.halted r)
-  exits : {r : Ended} → r .ending ≡ 1 → r .position .executed ≡ suc (at .executed) → Counts at labels m (Stepped.halted r)
+  exited : {r : Ended} → r .ending ≡ 1 → r .position .executed ≡ suc (at .executed) → Counts at labels m (Stepped.halted r)
   goes : {next : Position} {ls n : Memory} → next .executed ≡ suc (at .executed) → Counts at labels m (Stepped.going next ls n)
 
 stop-large : (e : Stop) → 31 ≤ endingOf e
@@ -41,7 +41,7 @@ unfolding applyDecision ended advanced
 applied-counts program k op at labels m x (Decision.stop e) =
     stays {r = ended (endingOf e) 0 at labels m} (λ x y. omega (arith, stop-large e, y)) (λ z. omega (arith, stop-large e, z)) refl refl refl
 applied-counts program k op at labels m x (Decision.exit words d) =
-    exits {r = ended 1 d (advanced at (at .index) words) labels m} refl refl
+    exited {r = ended 1 d (advanced at (at .index) words) labels m} refl refl
 applied-counts program k op at labels m x (Decision.next words i) = goes refl
 
 stepped-counts : (program : Program) (at : Position) (labels m : Memory) → Counts at labels m (stepped program at labels m)
@@ -65,7 +65,7 @@ unfolding continued
 continued-counts budget f h at labels m (stays e n p l q) =
     let c = ap (λ (x : Position). x .executed) p in
     record { ending = e; before = omega (arith, c); counted = omega (arith, c); stopped = λ z. absurd (n z) }
-continued-counts budget f h at labels m (exits e c) =
+continued-counts budget f h at labels m (exited e c) =
     record { ending = λ x y. omega (arith, e, x); before = omega (arith, c); counted = omega (arith, c); stopped = λ z. absurd (omega (arith, e, z)) }
 continued-counts budget f h at labels m (goes {next} {ls} {n} e) =
     let r = h next ls n in
@@ -134,7 +134,7 @@ stopped-operation : (at : Position) (labels m : Memory) {a : Stepped} → Counts
 stopped-operation at labels m (stays {r = q} l n p x y) r e h =
     let w : q ≡ r = cc e in
     (sym (ap (λ (z : Ended). z .position) w) ∙ p, sym (ap (λ (z : Ended). z .labels) w) ∙ x, sym (ap (λ (z : Ended). z .memory) w) ∙ y)
-stopped-operation at labels m (exits {r = q} l c) r e h =
+stopped-operation at labels m (exited {r = q} l c) r e h =
     let w : q ≡ r = cc e in
     let v : q .ending ≡ r .ending = ap (λ (x : Ended). x .ending) w in
     absurd (omega (arith, l, v, h))
@@ -160,7 +160,7 @@ continued-after program budget f h q at labels m s (stays {r} e n p l x) =
     let c = ap (λ (x : Position). x .executed) p in
     let z : r .position .executed - at .executed ≡ 0 = omega (arith, c) in
     rw (z, p, l, x)
-continued-after program budget f h q at labels m s (exits {r} e c) =
+continued-after program budget f h q at labels m s (exited {r} e c) =
     let z : r .position .executed - at .executed ≡ 1 = omega (arith, c) in
     rw (z, s)
 continued-after program budget f h q at labels m s (goes {next} {ls} {n} e) =

@@ -25,6 +25,7 @@ pub record InOrder (settings : Settings) (lengths : Lengths) (list : List ℕ) (
   pub nothingRefused : settingsInRange settings ≡ true → (lengthsInRange lengths list && fitting) ≡ true → valid ≡ true → found .rule ≡ 0
       → start ≤ operationCount list → refusal settings lengths list start fitting valid ≡ refusalReport 0 0
 
+-- Of every call.
 abbrev pub RefusalsInOrder : Type 0
 RefusalsInOrder = (settings : Settings) (lengths : Lengths) (list : List ℕ) (start : ℕ) (fitting valid : Bool)
     → InOrder settings lengths list start fitting valid (malformed (settings .«address_size») lengths list)

@@ -8,6 +8,7 @@ use Rattle.operation.specs.Layout.{opcodeAt, descriptorAt, offsetAt, des
 use Rattle.arithmetic.specs.Opcodes.{hasPlace}
 use Rattle.operation.specs.Rules.{breaksShape}
 
+-- The varnode of a descriptor and its offset; `wanted`: the manual has one at this place.
 unfoldable pub decoded : (wanted : Bool) (descriptor offset : ℕ) → Decoded
 decoded wanted descriptor offset = cond (breaksShape wanted descriptor offset) Fault (Accepted (describedBy descriptor offset))
 

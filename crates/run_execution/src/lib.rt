@@ -65,11 +65,14 @@ pub fn run_from(
     }
 }
 
+// A log word is its operation's index times this, and a low part.
+pub const INDEX_WEIGHT: u64 = 4294967296;
+
 fn log_word(i: usize, low: u64) -> u64
     requires { ⌜ (i < mostOperations) × (low ≤ mostBytes) ⌝ }
     ensures { λ r. ⌜ r ≡ logWord i low ⌝ }
 {
-    (i as u64) * 4294967296 + low
+    (i as u64) * INDEX_WEIGHT + low
 }
 
 // Writes a word at k, if it is due; the place of the next word.

@@ -23,6 +23,7 @@ use operation::layout::operation_count;
 use operation::report::Report;
 use operation::report::run_report;
 use operation::rules::accesses;
+use run_execution::INDEX_WEIGHT;
 use run_execution::run_from;
 use run_memory::labels::mark;
 use run_taint::becomes_secret;
@@ -248,7 +249,7 @@ fn pointer_at(list: &[u64], log: &[u64], i: usize, k: usize) -> u64
     ensures { λ r. ⌜ r ≡ pointerLogged (operationAt (now (list .entry)) i) (now (log .entry)) k ⌝ }
 {
     if accesses(opcode_at(list, i)) {
-        return log[k] % 4294967296;
+        return log[k] % INDEX_WEIGHT;
     }
     0
 }

@@ -44,12 +44,15 @@ planned program m op i a b =
 
 -- ---- the same by opcode: LOAD and STORE; BRANCH, CBRANCH and CALL; all others
 
+-- LOAD and STORE.
 unfoldable pub movePlan : Program → Memory → Operation → (i b : ℕ) → Plan
 movePlan program m op i b = cond (outOfBounds m op b) (stopPlan 32 i) (nextPlan op i b (valueMoved program m op b))
 
+-- BRANCH, CBRANCH and CALL.
 unfoldable pub branchPlan : Operation → (i b : ℕ) → Plan
 branchPlan op i b = cond (exits op b) (exitPlan op i 0 b) (nextPlan op i b 0)
 
+-- All others.
 unfoldable pub dataPlan : Operation → (i a b : ℕ) → Plan
 dataPlan op i a b =
     cond (dividesByZero op b) (stopPlan 33 i) (cond (exits op b) (exitPlan op i a b) (nextPlan op i b (valueComputed op a b)))

@@ -8,6 +8,7 @@ use Rattle.operation.specs.Layout.{operationCount}
 use Rattle.validation.specs.Verdict.{lengthsInRange}
 use Rattle.validation.specs.WellFormed.{WellFormed}
 
+-- Lengths in range, and every operation well-formed.
 pub record Valid (lengths : Lengths) (list : List ℕ) : Type 0 where
   pub addressSize : ℕ
   pub inRange : lengthsInRange lengths list ≡ true

@@ -7,9 +7,11 @@ use Rattle.operation.specs.declared.report.Report.{Report}
 use Rattle.machine.specs.Memory.{Memory}
 use Rattle.machine.specs.Calls.{plainOutcome, labelledOutcome, plainRun, labelledRun}
 
+-- The plain run.
 abbrev pub RunPromise : Settings → (list : List ℕ) → (start budget : ℕ) → (memory : Memory) → (log : List ℕ) → (memory′ : Memory) → (log′ : List ℕ) → Report → Type 0
 RunPromise settings list start budget m log m′ log′ report = plainOutcome report m′ log′ ≡ plainRun settings list start budget log m
 
+-- The labelled run.
 abbrev pub LabelledRunPromise : Settings → (list : List ℕ) → (start budget : ℕ) → (memory labels : Memory) → (log : List ℕ)
     → (memory′ labels′ : Memory) → (log′ : List ℕ) → Report → Type 0
 LabelledRunPromise settings list start budget m labels log m′ labels′ log′ report =

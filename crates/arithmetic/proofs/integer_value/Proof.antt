@@ -1,16 +1,17 @@
 -- `arithmetic::integer_value` meets its contract. Each arm is its row of the table of results.
-use Prim.Native.Nat.{_^_, _<_}
+use Prim.Native.Nat.{suc, _-_, _^_, _<_}
 use mathlib.Core.Path.{refl, sym, ap, _∙_}
 use native.Mathlib.Omega.{arith}
 use borrow.Author.Needs.{needs}
-use borrow.Author.Tests.{ne-eqb}
+use Rattle.word.specs.Sum.{tabulate}
 use Rattle.integer.proofs.Bits.{negate-is, xor-is, and-is, or-is}
 use Rattle.integer.proofs.Booleans.{not-not}
+use Rattle.arithmetic.proofs.Lookup.{lookup-none}
 use Rattle.arithmetic.proofs.Agreement.{agreed, nonzero, halves-fit, size-kept, all-equal, inputs-equal}
 use Rattle.integer.proofs.Overflow.{opposite-is}
 use Rattle.integer.specs.Operations.{flag, intEqual, intNotEqual, intLess, intSless, intLessEqual, intSlessEqual, intZext, intCarry, intScarry, intSborrow, intDiv, intRem, boolNegate, truth}
 use Rattle.arithmetic.specs.Result.{lookup, integerResults}
-use Rattle.arithmetic.specs.Opcodes.{opcodes, rowOf, sizesOf}
+use Rattle.arithmetic.specs.Opcodes.{firstInteger, lastInteger, opcodes, rowOf, sizesOf, member}
 use Rattle.arithmetic.specs.Operands.{divides, agree, sizesAgree}
 use Rattle.arithmetic.proofs.integer_value.Statement.{statement}
 use Rattle.arithmetic.proofs.integer_value.Tie as tie
@@ -273,8 +274,8 @@ unfolding lookup integerResults
 returns-33 c = rw (c .before .match .keys33) (c .or .ensures)
 
 returns-34 : tie.Need-returns-34
-unfolding lookup integerResults
-returns-34 c = rw (ne-eqb _ 10 (c .match .rest .0 .0 .0 .0 .0 .0 .0 .0 .0 .0 .0 .0 .0 .0 .0 .0 .0 .0 .0 .0 .0 .0 .0 .0 .0 .0 .0 .0 .0 .0 .0 .0 .1), ne-eqb _ 11 (c .match .rest .0 .0 .0 .0 .0 .0 .0 .0 .0 .0 .0 .0 .0 .0 .0 .0 .0 .0 .0 .0 .0 .0 .0 .0 .0 .0 .0 .0 .0 .0 .0 .1), ne-eqb _ 12 (c .match .rest .0 .0 .0 .0 .0 .0 .0 .0 .0 .0 .0 .0 .0 .0 .0 .0 .0 .0 .0 .0 .0 .0 .0 .0 .0 .0 .0 .0 .0 .0 .1), ne-eqb _ 13 (c .match .rest .0 .0 .0 .0 .0 .0 .0 .0 .0 .0 .0 .0 .0 .0 .0 .0 .0 .0 .0 .0 .0 .0 .0 .0 .0 .0 .0 .0 .0 .1), ne-eqb _ 14 (c .match .rest .0 .0 .0 .0 .0 .0 .0 .0 .0 .0 .0 .0 .0 .0 .0 .0 .0 .0 .0 .0 .0 .0 .0 .0 .0 .0 .0 .0 .1), ne-eqb _ 15 (c .match .rest .0 .0 .0 .0 .0 .0 .0 .0 .0 .0 .0 .0 .0 .0 .0 .0 .0 .0 .0 .0 .0 .0 .0 .0 .0 .0 .0 .1), ne-eqb _ 16 (c .match .rest .0 .0 .0 .0 .0 .0 .0 .0 .0 .0 .0 .0 .0 .0 .0 .0 .0 .0 .0 .0 .0 .0 .0 .0 .0 .0 .1), ne-eqb _ 17 (c .match .rest .0 .0 .0 .0 .0 .0 .0 .0 .0 .0 .0 .0 .0 .0 .0 .0 .0 .0 .0 .0 .0 .0 .0 .0 .0 .1), ne-eqb _ 18 (c .match .rest .0 .0 .0 .0 .0 .0 .0 .0 .0 .0 .0 .0 .0 .0 .0 .0 .0 .0 .0 .0 .0 .0 .0 .0 .1), ne-eqb _ 19 (c .match .rest .0 .0 .0 .0 .0 .0 .0 .0 .0 .0 .0 .0 .0 .0 .0 .0 .0 .0 .0 .0 .0 .0 .0 .1), ne-eqb _ 20 (c .match .rest .0 .0 .0 .0 .0 .0 .0 .0 .0 .0 .0 .0 .0 .0 .0 .0 .0 .0 .0 .0 .0 .0 .1), ne-eqb _ 21 (c .match .rest .0 .0 .0 .0 .0 .0 .0 .0 .0 .0 .0 .0 .0 .0 .0 .0 .0 .0 .0 .0 .0 .1), ne-eqb _ 22 (c .match .rest .0 .0 .0 .0 .0 .0 .0 .0 .0 .0 .0 .0 .0 .0 .0 .0 .0 .0 .0 .0 .1), ne-eqb _ 23 (c .match .rest .0 .0 .0 .0 .0 .0 .0 .0 .0 .0 .0 .0 .0 .0 .0 .0 .0 .0 .0 .1), ne-eqb _ 24 (c .match .rest .0 .0 .0 .0 .0 .0 .0 .0 .0 .0 .0 .0 .0 .0 .0 .0 .0 .0 .1), ne-eqb _ 25 (c .match .rest .0 .0 .0 .0 .0 .0 .0 .0 .0 .0 .0 .0 .0 .0 .0 .0 .0 .1), ne-eqb _ 26 (c .match .rest .0 .0 .0 .0 .0 .0 .0 .0 .0 .0 .0 .0 .0 .0 .0 .0 .1), ne-eqb _ 27 (c .match .rest .0 .0 .0 .0 .0 .0 .0 .0 .0 .0 .0 .0 .0 .0 .0 .1), ne-eqb _ 28 (c .match .rest .0 .0 .0 .0 .0 .0 .0 .0 .0 .0 .0 .0 .0 .0 .1), ne-eqb _ 29 (c .match .rest .0 .0 .0 .0 .0 .0 .0 .0 .0 .0 .0 .0 .0 .1), ne-eqb _ 30 (c .match .rest .0 .0 .0 .0 .0 .0 .0 .0 .0 .0 .0 .0 .1), ne-eqb _ 31 (c .match .rest .0 .0 .0 .0 .0 .0 .0 .0 .0 .0 .0 .1), ne-eqb _ 32 (c .match .rest .0 .0 .0 .0 .0 .0 .0 .0 .0 .0 .1), ne-eqb _ 33 (c .match .rest .0 .0 .0 .0 .0 .0 .0 .0 .0 .1), ne-eqb _ 34 (c .match .rest .0 .0 .0 .0 .0 .0 .0 .0 .1), ne-eqb _ 35 (c .match .rest .0 .0 .0 .0 .0 .0 .0 .1), ne-eqb _ 36 (c .match .rest .0 .0 .0 .0 .0 .0 .1), ne-eqb _ 37 (c .match .rest .0 .0 .0 .0 .0 .1), ne-eqb _ 38 (c .match .rest .0 .0 .0 .0 .1), ne-eqb _ 39 (c .match .rest .0 .0 .0 .1), ne-eqb _ 40 (c .match .rest .0 .0 .1), ne-eqb _ 41 (c .match .rest .0 .1), ne-eqb _ 42 (c .match .rest .1))
+unfolding integerResults member tabulate
+returns-34 c = sym (lookup-none _ (tabulate (suc lastInteger - firstInteger) (λ k. lastInteger - k)) (c .match .rest) _ refl)
 
 pub integer-value-spec : {M : Type 1} → statement M
 integer-value-spec =
