@@ -39,7 +39,7 @@ pub fn operation_count(list: &[u64]) -> usize
 }
 
 // Word k of operation i.
-pub fn word_at(list: &[u64], i: usize, k: usize) -> u64
+pub(crate) fn word_at(list: &[u64], i: usize, k: usize) -> u64
     requires { ⌜ wordsPerOperation * i + k < length (now list) ⌝ }
     ensures { λ r. ⌜ r ≡ wordAt (now (list .entry)) i k ⌝ }
 {
@@ -55,7 +55,7 @@ fn byte(w: u64, k: u8) -> u64
 }
 
 // Byte k of the head of operation i.
-pub fn head_byte(list: &[u64], i: usize, k: u8) -> u64
+pub(crate) fn head_byte(list: &[u64], i: usize, k: u8) -> u64
     requires { ⌜ (wordsPerOperation * i < length (now list)) × (k < 8) ⌝ }
     ensures { λ r. ⌜ r ≡ headByte (now (list .entry)) i k ⌝ }
 {
@@ -63,7 +63,7 @@ pub fn head_byte(list: &[u64], i: usize, k: u8) -> u64
 }
 
 // The number that the spare bytes of the head make.
-pub fn spare_at(list: &[u64], i: usize) -> u64
+pub(crate) fn spare_at(list: &[u64], i: usize) -> u64
     requires { ⌜ wordsPerOperation * i < length (now list) ⌝ }
     ensures { λ r. ⌜ r ≡ spareAt (now (list .entry)) i ⌝ }
 {

@@ -12,10 +12,10 @@ use integer::boolean::pick;
 use operation::report::Report;
 
 // Words of a report.
-pub const REPORT_WORDS: usize = 5;
+pub(crate) const REPORT_WORDS: usize = 5;
 
 // Words of a place.
-pub const PLACE_WORDS: usize = 3;
+pub(crate) const PLACE_WORDS: usize = 3;
 
 // Writes the words of a report.
 pub(crate) fn write_report(words: &mut [u64], report: Report)

@@ -20,73 +20,25 @@ piece-requires : tie.Need-piece-requires
 unfolding sizesAgree agree sizesOf rowOf opcodes
 piece-requires c κs = halves-fit (c .before .pre) (agreed (c .before .pre) 10 (c .match .keys1))
 
-subpiece-requires : tie.Need-subpiece-requires
-subpiece-requires c κs = search needs
-
-popcount-requires : tie.Need-popcount-requires
-popcount-requires c κs = search needs
-
-flag-requires : tie.Need-flag-requires
-flag-requires c κs = search needs
-
-flag-requires-2 : tie.Need-flag-requires-2
-flag-requires-2 c κs = search needs
-
-flag-requires-3 : tie.Need-flag-requires-3
-flag-requires-3 c κs = search needs
-
 less-requires : tie.Need-less-requires
 unfolding sizesAgree agree sizesOf rowOf opcodes
 less-requires c κs = (c .before .pre .some0, c .before .pre .most0, c .before .pre .below0, inputs-equal (c .before .pre) (agreed (c .before .pre) 16 (c .match .keys7)))
-
-flag-requires-4 : tie.Need-flag-requires-4
-flag-requires-4 c κs = search needs
-
-flag-requires-5 : tie.Need-flag-requires-5
-flag-requires-5 c κs = search needs
 
 less-equal-requires : tie.Need-less-equal-requires
 unfolding sizesAgree agree sizesOf rowOf opcodes
 less-equal-requires c κs = (c .before .pre .some0, c .before .pre .most0, c .before .pre .below0, inputs-equal (c .before .pre) (agreed (c .before .pre) 18 (c .match .keys9)))
 
-flag-requires-6 : tie.Need-flag-requires-6
-flag-requires-6 c κs = search needs
-
-extend-requires : tie.Need-extend-requires
-extend-requires c κs = search needs
-
-add-requires : tie.Need-add-requires
-add-requires c κs = search needs
-
-sub-requires : tie.Need-sub-requires
-sub-requires c κs = search needs
-
 carry-requires : tie.Need-carry-requires
 unfolding sizesAgree agree sizesOf rowOf opcodes
 carry-requires c κs = (c .before .pre .some0, c .before .pre .most0, inputs-equal (c .before .pre) (agreed (c .before .pre) 23 (c .match .keys14)))
-
-flag-requires-7 : tie.Need-flag-requires-7
-flag-requires-7 c κs = search needs
 
 carry-requires-2 : tie.Need-carry-requires-2
 unfolding sizesAgree agree sizesOf rowOf opcodes
 carry-requires-2 c κs = (c .before .pre .some0, c .before .pre .most0, c .before .pre .below0, inputs-equal (c .before .pre) (agreed (c .before .pre) 24 (c .match .keys15)))
 
-flag-requires-8 : tie.Need-flag-requires-8
-flag-requires-8 c κs = search needs
-
 borrow-requires : tie.Need-borrow-requires
 unfolding sizesAgree agree sizesOf rowOf opcodes
 borrow-requires c κs = (c .before .pre .some0, c .before .pre .most0, c .before .pre .below0, inputs-equal (c .before .pre) (agreed (c .before .pre) 25 (c .match .keys16)))
-
-flag-requires-9 : tie.Need-flag-requires-9
-flag-requires-9 c κs = search needs
-
-sub-requires-2 : tie.Need-sub-requires-2
-sub-requires-2 c κs = search needs
-
-largest-requires : tie.Need-largest-requires
-largest-requires c κs = search needs
 
 sub-result : tie.Need-sub-result
 unfolding sizesAgree agree sizesOf rowOf opcodes
@@ -94,18 +46,9 @@ sub-result c =
     let h : c .before .before .args .a < 256 ^ c .before .before .args .size = size-kept (c .before .before .pre) (agreed (c .before .before .pre) 27 (c .before .match .keys18)) in
     omega (arith, c .largest .ensures)
 
-left-requires : tie.Need-left-requires
-left-requires c κs = search needs
-
-right-requires : tie.Need-right-requires
-right-requires c κs = search needs
-
 right-requires-2 : tie.Need-right-requires-2
 unfolding sizesAgree agree sizesOf rowOf opcodes
 right-requires-2 c κs = (c .before .pre .some, c .before .pre .most, size-kept (c .before .pre) (agreed (c .before .pre) 33 (c .match .keys24)))
-
-mult-requires : tie.Need-mult-requires
-mult-requires c κs = search needs
 
 div-result : tie.Need-div-result
 unfolding divides
@@ -122,18 +65,6 @@ div-requires c κs = let h = all-equal (c .before .pre) (agreed (c .before .pre)
 rem-requires : tie.Need-rem-requires
 unfolding sizesAgree agree sizesOf rowOf opcodes divides
 rem-requires c κs = let h = all-equal (c .before .pre) (agreed (c .before .pre) 38 (c .match .keys29)) in (c .before .pre .some, c .before .pre .most, h .0, h .1, nonzero (c .before .pre) 38 (c .match .keys29) refl)
-
-flag-requires-10 : tie.Need-flag-requires-10
-flag-requires-10 c κs = search needs
-
-xor-requires : tie.Need-xor-requires
-xor-requires c κs = search needs
-
-and-requires : tie.Need-and-requires
-and-requires c κs = search needs
-
-or-requires : tie.Need-or-requires
-or-requires c κs = search needs
 
 returns : tie.Need-returns
 unfolding lookup integerResults
@@ -282,40 +213,40 @@ integer-value-spec =
     tie.close
     (tie.spec
     piece-requires
-    subpiece-requires
-    popcount-requires
-    flag-requires
-    flag-requires-2
-    flag-requires-3
+    (λ c κs. search needs)
+    (λ c κs. search needs)
+    (λ c κs. search needs)
+    (λ c κs. search needs)
+    (λ c κs. search needs)
     less-requires
-    flag-requires-4
-    flag-requires-5
+    (λ c κs. search needs)
+    (λ c κs. search needs)
     less-equal-requires
-    flag-requires-6
-    extend-requires
-    add-requires
-    sub-requires
+    (λ c κs. search needs)
+    (λ c κs. search needs)
+    (λ c κs. search needs)
+    (λ c κs. search needs)
     carry-requires
-    flag-requires-7
+    (λ c κs. search needs)
     carry-requires-2
-    flag-requires-8
+    (λ c κs. search needs)
     borrow-requires
-    flag-requires-9
-    sub-requires-2
-    largest-requires
+    (λ c κs. search needs)
+    (λ c κs. search needs)
+    (λ c κs. search needs)
     sub-result
-    left-requires
-    right-requires
+    (λ c κs. search needs)
+    (λ c κs. search needs)
     right-requires-2
-    mult-requires
+    (λ c κs. search needs)
     div-result
     rem-result
     div-requires
     rem-requires
-    flag-requires-10
-    xor-requires
-    and-requires
-    or-requires
+    (λ c κs. search needs)
+    (λ c κs. search needs)
+    (λ c κs. search needs)
+    (λ c κs. search needs)
     returns
     returns-2
     returns-3

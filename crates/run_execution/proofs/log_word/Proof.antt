@@ -6,15 +6,9 @@ use Rattle.run_execution.proofs.log_word.Statement.{statement}
 use Rattle.run_execution.proofs.log_word.Tie as tie
 use Rattle.run_execution.proofs.log_word.Lts as lts
 
-mul-result : tie.Need-mul-result
-mul-result c = search needs
-
-add-result : tie.Need-add-result
-add-result c = search needs
-
 returns : tie.Need-returns
 unfolding logWord
 returns c = refl
 
 pub log-word-spec : {M : Type 1} → statement M
-log-word-spec = tie.close (tie.spec mul-result add-result returns)
+log-word-spec = tie.close (tie.spec (λ c. search needs) (λ c. search needs) returns)

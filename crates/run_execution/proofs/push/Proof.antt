@@ -16,14 +16,8 @@ slice-write-log c = c .before .pre (c .if1 .taken)
 add-result : tie.Need-add-result
 add-result c = let h = c .before .pre (c .if1 .taken) in omega (arith, c .before .good .0 .0)
 
-same-length : tie.Need-same-length
-same-length c = search needs
-
 returns : tie.Need-returns
 returns c = let e = c .if1 .taken in (rw e refl, rw e refl)
 
-returns-2 : tie.Need-returns-2
-returns-2 c = search needs
-
 pub push-spec : {M : Type 1} → statement M
-push-spec = tie.close (tie.spec mul-log slice-write-log add-result same-length returns returns-2)
+push-spec = tie.close (tie.spec mul-log slice-write-log add-result (λ c. search needs) returns (λ c. search needs))

@@ -72,9 +72,6 @@ entry-of c =
 
 -- ---- the needs
 
-operation-count-requires : tie.Need-operation-count-requires Inv-loop μ-loop
-operation-count-requires c κs = search needs
-
 loop-holds : tie.Need-loop-holds Inv-loop μ-loop
 loop-holds c =
     let at-slice-known3 = c .before .before in
@@ -87,9 +84,6 @@ loop-holds c =
           (of-bytes _ _ _ (λ j. at-slice-known .slice-known .given j .fits) (λ j. at-slice-known2 .slice-known2 .given j .fits)
           (λ j. at-slice-known3 .slice-known3 .given j .fits)) (entry .pre .2),
     )
-
-run-report-requires : tie.Need-run-report-requires Inv-loop μ-loop
-run-report-requires c κs = search needs
 
 same-length : tie.Need-same-length Inv-loop μ-loop
 unfolding lengthsOf
@@ -119,9 +113,6 @@ returns c =
     let within1 = c .before in
     let at-loop = within1 .before in
     rw (c .run-report .ensures) (at-end _ _ _ _ _ _ _ _ _ _ _ (at-loop .loop .inv .1) (within1 .if1 .taken ∙ at-loop .loop .inv .0))
-
-run-report-requires-2 : tie.Need-run-report-requires-2 Inv-loop μ-loop
-run-report-requires-2 c κs = search needs
 
 same-length-5 : tie.Need-same-length-5 Inv-loop μ-loop
 unfolding lengthsOf
@@ -160,9 +151,6 @@ plan-at-requires c κs =
     let at-loop = past1 .before in
     may-plan _ _ _ _ _ _ _ _ _ _ _ (at-loop .loop .inv .1) (λ e. past1 .if1 .left (e ∙ sym (at-loop .loop .inv .0))) (past2 .if2 .left)
 
-run-report-requires-3 : tie.Need-run-report-requires-3 Inv-loop μ-loop
-run-report-requires-3 c κs = search needs
-
 same-length-9 : tie.Need-same-length-9 Inv-loop μ-loop
 unfolding lengthsOf
 same-length-9 c =
@@ -192,12 +180,6 @@ returns-3 c =
     rw (c .run-report3 .ensures)
     (at-stop _ _ _ _ _ _ _ _ _ _ _ (loop-of at-plan .loop .inv .1) (λ e. more-of at-plan .if1 .left (e ∙ sym (loop-of at-plan .loop .inv .0)))
     (left-of at-plan .if2 .left) _ (at-plan .plan-at .ensures) (c .before .if3 .taken))
-
-both-requires : tie.Need-both-requires Inv-loop μ-loop
-both-requires c κs = search needs
-
-run-report-requires-4 : tie.Need-run-report-requires-4 Inv-loop μ-loop
-run-report-requires-4 c κs = search needs
 
 same-length-13 : tie.Need-same-length-13 Inv-loop μ-loop
 unfolding lengthsOf
@@ -256,9 +238,6 @@ add-executed c =
     let at-plan = plan-of past4 in
     let h = loop-of at-plan .loop .inv .1 .spent in
     omega (arith, entry-of (loop-of at-plan) .fits .budget)
-
-run-report-requires-5 : tie.Need-run-report-requires-5 Inv-loop μ-loop
-run-report-requires-5 c κs = search needs
 
 same-length-17 : tie.Need-same-length-17 Inv-loop μ-loop
 unfolding lengthsOf
@@ -355,29 +334,29 @@ run-from-spec =
     (tie.spec
     Inv-loop
     μ-loop
-    operation-count-requires
+    (λ c κs. search needs)
     loop-holds
-    run-report-requires
+    (λ c κs. search needs)
     same-length
     same-length-2
     same-length-3
     same-length-4
     returns
-    run-report-requires-2
+    (λ c κs. search needs)
     same-length-5
     same-length-6
     same-length-7
     same-length-8
     returns-2
     plan-at-requires
-    run-report-requires-3
+    (λ c κs. search needs)
     same-length-9
     same-length-10
     same-length-11
     same-length-12
     returns-3
-    both-requires
-    run-report-requires-4
+    (λ c κs. search needs)
+    (λ c κs. search needs)
     same-length-13
     same-length-14
     same-length-15
@@ -386,7 +365,7 @@ run-from-spec =
     log-word-requires
     push-requires
     add-executed
-    run-report-requires-5
+    (λ c κs. search needs)
     same-length-17
     same-length-18
     same-length-19

@@ -5,12 +5,6 @@ use borrow.Author.Needs.{needs}
 use Rattle.run_labelled.proofs.completes.Statement.{statement}
 use Rattle.run_labelled.proofs.completes.Tie as tie
 
-both-requires : tie.Need-both-requires
-both-requires c κs = search needs
-
-both-requires-2 : tie.Need-both-requires-2
-both-requires-2 c κs = search needs
-
 returns : tie.Need-returns
 unfolding completes
 returns c =
@@ -18,4 +12,4 @@ returns c =
     c .both2 .ensures ∙ rw (at-both .both .ensures) refl
 
 pub completes-spec : {M : Type 1} → statement M
-completes-spec = tie.close (tie.spec both-requires both-requires-2 returns)
+completes-spec = tie.close (tie.spec (λ c κs. search needs) (λ c κs. search needs) returns)

@@ -6,15 +6,6 @@ use borrow.Author.Needs.{needs}
 use Rattle.run_labelled.proofs.leaks_within.Statement.{statement}
 use Rattle.run_labelled.proofs.leaks_within.Tie as tie
 
-both-requires : tie.Need-both-requires
-both-requires c κs = search needs
-
-operation-count-requires : tie.Need-operation-count-requires
-operation-count-requires c κs = search needs
-
-both-requires-2 : tie.Need-both-requires-2
-both-requires-2 c κs = search needs
-
 leaks-at-requires : tie.Need-leaks-at-requires
 leaks-at-requires c κs =
     let at-both2 = c .before in
@@ -42,4 +33,4 @@ returns-2 c =
     rw (← at-operation-count .operation-count .ensures, ← at-both .both .ensures, ← at-both2 .both2 .ensures, c .if1 .left) refl
 
 pub leaks-within-spec : {M : Type 1} → statement M
-leaks-within-spec = tie.close (tie.spec both-requires operation-count-requires both-requires-2 leaks-at-requires returns returns-2)
+leaks-within-spec = tie.close (tie.spec (λ c κs. search needs) (λ c κs. search needs) (λ c κs. search needs) leaks-at-requires returns returns-2)

@@ -44,15 +44,6 @@ mark-requires c κs =
     let h = entry .pre (within1 .if1 .taken) in
     rw (at-target-at .target-at .ensures, at-pointer-at .pointer-at .ensures) (h .placed)
 
-same-length : tie.Need-same-length
-same-length c = search needs
-
-same-length-2 : tie.Need-same-length-2
-same-length-2 c = search needs
-
-same-length-3 : tie.Need-same-length-3
-same-length-3 c = search needs
-
 returns : tie.Need-returns
 returns c =
     let at-slice-known4 = c .before .before .before .before in
@@ -85,9 +76,9 @@ mark-after-spec =
     target-at-requires
     becomes-secret-requires
     mark-requires
-    same-length
-    same-length-2
-    same-length-3
+    (λ c. search needs)
+    (λ c. search needs)
+    (λ c. search needs)
     returns
     returns-2
     returns-3)

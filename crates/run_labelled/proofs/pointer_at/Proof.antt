@@ -16,9 +16,6 @@ opcode-at-requires c κs =
     let h = entry .pre .0 in
     omega arith
 
-accesses-requires : tie.Need-accesses-requires
-accesses-requires c κs = search needs
-
 mul-result : tie.Need-mul-result
 mul-result c =
     let at-accesses = c .before in
@@ -53,4 +50,4 @@ returns-2 c =
     rw e refl
 
 pub pointer-at-spec : {M : Type 1} → statement M
-pointer-at-spec = tie.close (tie.spec opcode-at-requires accesses-requires mul-result shared-slice-read-result returns returns-2)
+pointer-at-spec = tie.close (tie.spec opcode-at-requires (λ c κs. search needs) mul-result shared-slice-read-result returns returns-2)

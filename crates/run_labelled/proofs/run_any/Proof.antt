@@ -60,9 +60,6 @@ entry-of c =
 
 -- ---- the needs
 
-turn-requires : tie.Need-turn-requires Inv-loop μ-loop
-turn-requires c κs = search needs
-
 loop-holds : tie.Need-loop-holds Inv-loop μ-loop
 loop-holds c =
     let at-slice-known4 = c .before .before .before .before in
@@ -82,12 +79,6 @@ add-executed c =
     let at-loop = loop-of at-step in
     let h = within _ _ _ _ _ _ _ _ _ _ _ _ _ _ (at-loop .loop .inv) _ (at-loop .before .turn .ensures) _ _ _ _ (at-step .step-at .ensures) in
     omega (arith, entry-of at-loop .fits .budget)
-
-both-requires : tie.Need-both-requires Inv-loop μ-loop
-both-requires c κs = search needs
-
-run-report-requires : tie.Need-run-report-requires Inv-loop μ-loop
-run-report-requires c κs = search needs
 
 same-length : tie.Need-same-length Inv-loop μ-loop
 unfolding lengthsOf
@@ -163,12 +154,12 @@ run-any-spec =
     (tie.spec
     Inv-loop
     μ-loop
-    turn-requires
+    (λ c κs. search needs)
     loop-holds
     step-at-requires
     add-executed
-    both-requires
-    run-report-requires
+    (λ c κs. search needs)
+    (λ c κs. search needs)
     same-length
     same-length-2
     same-length-3

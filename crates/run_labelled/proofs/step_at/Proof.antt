@@ -14,18 +14,6 @@ leaks-within-requires c κs =
     let pre = entry .pre in
     (labels-valid (pre .0) (pre .3), pre .1)
 
-run-report-requires : tie.Need-run-report-requires
-run-report-requires c κs = search needs
-
-same-length : tie.Need-same-length
-same-length c = search needs
-
-same-length-2 : tie.Need-same-length-2
-same-length-2 c = search needs
-
-same-length-3 : tie.Need-same-length-3
-same-length-3 c = search needs
-
 returns : tie.Need-returns
 returns c =
     let at-leaks-within = c .before .before in
@@ -51,9 +39,6 @@ run-from-requires c κs =
     let pre = entry .pre in
     (pre .0, pre .1, pre .2)
 
-completes-requires : tie.Need-completes-requires
-completes-requires c κs = search needs
-
 mark-after-requires : tie.Need-mark-after-requires
 mark-after-requires c κs =
     let at-completes = c .before .before .before .before in
@@ -74,27 +59,6 @@ mark-after-requires c κs =
     (of-bytes _ _ _ (λ j. at-slice-known .slice-known .given j .fits) (λ j. at-slice-known2 .slice-known2 .given j .fits)
     (λ j. at-slice-known3 .slice-known3 .given j .fits)) (pre .0) (pre .2) (pre .3) (pre .4) _ (at-leaks-within .leaks-within .ensures) (at-public .if1 .left) _ _ _ (at-run-from .run-from .ensures)
     _ (at-completes .completes .ensures)
-
-same-length-4 : tie.Need-same-length-4
-same-length-4 c = search needs
-
-same-length-5 : tie.Need-same-length-5
-same-length-5 c = search needs
-
-same-length-6 : tie.Need-same-length-6
-same-length-6 c = search needs
-
-same-length-7 : tie.Need-same-length-7
-same-length-7 c = search needs
-
-same-length-8 : tie.Need-same-length-8
-same-length-8 c = search needs
-
-same-length-9 : tie.Need-same-length-9
-same-length-9 c = search needs
-
-same-length-10 : tie.Need-same-length-10
-same-length-10 c = search needs
 
 returns-2 : tie.Need-returns-2
 returns-2 c =
@@ -125,19 +89,19 @@ step-at-spec =
     tie.close
     (tie.spec
     leaks-within-requires
-    run-report-requires
-    same-length
-    same-length-2
-    same-length-3
+    (λ c κs. search needs)
+    (λ c. search needs)
+    (λ c. search needs)
+    (λ c. search needs)
     returns
     run-from-requires
-    completes-requires
+    (λ c κs. search needs)
     mark-after-requires
-    same-length-4
-    same-length-5
-    same-length-6
-    same-length-7
-    same-length-8
-    same-length-9
-    same-length-10
+    (λ c. search needs)
+    (λ c. search needs)
+    (λ c. search needs)
+    (λ c. search needs)
+    (λ c. search needs)
+    (λ c. search needs)
+    (λ c. search needs)
     returns-2)

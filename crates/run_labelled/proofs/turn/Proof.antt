@@ -5,9 +5,6 @@ use borrow.Author.Needs.{needs}
 use Rattle.run_labelled.proofs.turn.Statement.{statement}
 use Rattle.run_labelled.proofs.turn.Tie as tie
 
-both-requires : tie.Need-both-requires
-both-requires c κs = search needs
-
 returns : tie.Need-returns
 unfolding turnOf
 returns c =
@@ -21,4 +18,4 @@ returns-2 c =
     rw (sym (at-both .both .ensures) ∙ c .if1 .left) refl
 
 pub turn-spec : {M : Type 1} → statement M
-turn-spec = tie.close (tie.spec both-requires returns returns-2)
+turn-spec = tie.close (tie.spec (λ c κs. search needs) returns returns-2)

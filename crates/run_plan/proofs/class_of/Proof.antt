@@ -8,16 +8,10 @@ use Rattle.run_plan.proofs.class_of.Tie as tie
 returns : tie.Need-returns
 returns c = (sym (late-no-access _ (c .if1 .taken)), sym (late-no-branch _ (c .if1 .taken)))
 
-accesses-requires : tie.Need-accesses-requires
-accesses-requires c κs = search needs
-
 returns-2 : tie.Need-returns-2
 returns-2 c =
     let a = sym (c .if2 .taken) ∙ c .before .accesses .ensures in
     (a, sym (access-no-branch _ (sym a)))
-
-branches-requires : tie.Need-branches-requires
-branches-requires c κs = search needs
 
 returns-3 : tie.Need-returns-3
 returns-3 c =
@@ -34,8 +28,8 @@ class-of-spec =
     tie.close
     (tie.spec
     returns
-    accesses-requires
+    (λ c κs. search needs)
     returns-2
-    branches-requires
+    (λ c κs. search needs)
     returns-3
     returns-4)

@@ -5,18 +5,6 @@ use borrow.Author.Needs.{needs}
 use Rattle.run_plan.proofs.data_at.Statement.{statement}
 use Rattle.run_plan.proofs.data_at.Tie as tie
 
-opcode-at-requires : tie.Need-opcode-at-requires
-opcode-at-requires c κs = search needs
-
-varnode-at-requires : tie.Need-varnode-at-requires
-varnode-at-requires c κs = search needs
-
-jumps-requires : tie.Need-jumps-requires
-jumps-requires c κs = search needs
-
-control-requires : tie.Need-control-requires
-control-requires c κs = search needs
-
 returns : tie.Need-returns
 unfolding operationAt
 returns c =
@@ -24,9 +12,6 @@ returns c =
     let decoded = tested .before .before .before in
     let entry = decoded .before .before in
     code-jumps _ _ _ _ (decoded .opcode-at .ensures) (entry .pre .2) _ (tested .jumps .ensures) _ _ (c .before .if2 .taken) (c .control .ensures)
-
-writes-requires : tie.Need-writes-requires
-writes-requires c κs = search needs
 
 returns-2 : tie.Need-returns-2
 unfolding operationAt
@@ -37,15 +22,6 @@ returns-2 c =
     code-copies _ _ _ _ (decoded .opcode-at .ensures) (entry .pre .2) _ (tested .jumps .ensures) (tested .before .if1 .taken) (c .before .if2 .left)
     _ _ _ (tested .before .before .varnode-at .ensures) (c .writes .ensures)
 
-is-division-requires : tie.Need-is-division-requires
-is-division-requires c κs = search needs
-
-both-requires : tie.Need-both-requires
-both-requires c κs = search needs
-
-control-requires-2 : tie.Need-control-requires-2
-control-requires-2 c κs = search needs
-
 returns-3 : tie.Need-returns-3
 unfolding operationAt
 returns-3 c =
@@ -55,12 +31,6 @@ returns-3 c =
     let entry = decoded .before .before in
     code-by-zero _ _ _ _ (decoded .opcode-at .ensures) (entry .pre .2) (late .if1 .left)
     _ _ (tested .before .is-division .ensures) (tested .both .ensures) _ _ (c .before .if3 .taken) (c .control2 .ensures)
-
-varnode-at-requires-2 : tie.Need-varnode-at-requires-2
-varnode-at-requires-2 c κs = search needs
-
-varnode-at-requires-3 : tie.Need-varnode-at-requires-3
-varnode-at-requires-3 c κs = search needs
 
 value-requires : tie.Need-value-requires
 unfolding operationAt
@@ -73,9 +43,6 @@ value-requires c κs =
     may-compute _ _ _ _ (decoded .opcode-at .ensures) (entry .pre .2) (late .if1 .left)
     _ _ (tested .before .is-division .ensures) (tested .both .ensures) (computing .if3 .left)
     _ _ _ (late .before .varnode-at .ensures) (c .before .varnode-at2 .ensures) (c .varnode-at3 .ensures)
-
-writes-requires-2 : tie.Need-writes-requires-2
-writes-requires-2 c κs = search needs
 
 returns-4 : tie.Need-returns-4
 unfolding operationAt
@@ -95,19 +62,19 @@ pub data-at-spec : {M : Type 1} → statement M
 data-at-spec =
     tie.close
     (tie.spec
-    opcode-at-requires
-    varnode-at-requires
-    jumps-requires
-    control-requires
+    (λ c κs. search needs)
+    (λ c κs. search needs)
+    (λ c κs. search needs)
+    (λ c κs. search needs)
     returns
-    writes-requires
+    (λ c κs. search needs)
     returns-2
-    is-division-requires
-    both-requires
-    control-requires-2
+    (λ c κs. search needs)
+    (λ c κs. search needs)
+    (λ c κs. search needs)
     returns-3
-    varnode-at-requires-2
-    varnode-at-requires-3
+    (λ c κs. search needs)
+    (λ c κs. search needs)
     value-requires
-    writes-requires-2
+    (λ c κs. search needs)
     returns-4)

@@ -9,33 +9,6 @@ use borrow.Author.Needs.{needs}
 use Rattle.run_plan.proofs.move_at.Statement.{statement}
 use Rattle.run_plan.proofs.move_at.Tie as tie
 
-opcode-at-requires : tie.Need-opcode-at-requires
-opcode-at-requires c κs = search needs
-
-varnode-at-requires : tie.Need-varnode-at-requires
-varnode-at-requires c κs = search needs
-
-varnode-at-requires-2 : tie.Need-varnode-at-requires-2
-varnode-at-requires-2 c κs = search needs
-
-varnode-at-requires-3 : tie.Need-varnode-at-requires-3
-varnode-at-requires-3 c κs = search needs
-
-choose-requires : tie.Need-choose-requires
-choose-requires c κs = search needs
-
-lengths-of-requires : tie.Need-lengths-of-requires
-lengths-of-requires c κs = search needs
-
-length-of-requires : tie.Need-length-of-requires
-length-of-requires c κs = search needs
-
-within-requires : tie.Need-within-requires
-within-requires c κs = search needs
-
-control-requires : tie.Need-control-requires
-control-requires c κs = search needs
-
 returns : tie.Need-returns
 unfolding operationAt
 returns c =
@@ -49,9 +22,6 @@ returns c =
     _ (tested .before .length-of .ensures ∙ ap (λ (l : Lengths). lengthOf l (sized .before .before .varnode-at2 .result .offset)) (measured .lengths-of .ensures)) _ (tested .within .ensures)
     (programOf (entry .before .args .settings) _) _ _ (c .before .if1 .taken) (c .control .ensures)
 
-choose-requires-2 : tie.Need-choose-requires-2
-choose-requires-2 c κs = search needs
-
 read-moved-requires : tie.Need-read-moved-requires
 unfolding operationAt
 read-moved-requires c κs =
@@ -64,9 +34,6 @@ read-moved-requires c κs =
     (sized .before .before .varnode-at2 .ensures) (sized .before .varnode-at3 .ensures) (sized .choose .ensures) (entry .before .pre .2)
     _ (tested .before .length-of .ensures ∙ ap (λ (l : Lengths). lengthOf l (sized .before .before .varnode-at2 .result .offset)) (measured .lengths-of .ensures)) _ (tested .within .ensures)
     (c .before .if1 .left) _ (c .choose2 .ensures)
-
-choose-requires-3 : tie.Need-choose-requires-3
-choose-requires-3 c κs = search needs
 
 writes-requires : tie.Need-writes-requires
 writes-requires c κs =
@@ -96,18 +63,18 @@ pub move-at-spec : {M : Type 1} → statement M
 move-at-spec =
     tie.close
     (tie.spec
-    opcode-at-requires
-    varnode-at-requires
-    varnode-at-requires-2
-    varnode-at-requires-3
-    choose-requires
-    lengths-of-requires
-    length-of-requires
-    within-requires
-    control-requires
+    (λ c κs. search needs)
+    (λ c κs. search needs)
+    (λ c κs. search needs)
+    (λ c κs. search needs)
+    (λ c κs. search needs)
+    (λ c κs. search needs)
+    (λ c κs. search needs)
+    (λ c κs. search needs)
+    (λ c κs. search needs)
     returns
-    choose-requires-2
+    (λ c κs. search needs)
     read-moved-requires
-    choose-requires-3
+    (λ c κs. search needs)
     writes-requires
     returns-2)

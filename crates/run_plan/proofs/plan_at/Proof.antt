@@ -32,9 +32,6 @@ read-input1-requires c κs =
     let pre = entry .before .before .pre in
     rw (c .varnode-at .ensures) (placed _ _ _ _ (pre .0 .operations _ (pre .1)) 2 (omega arith) (λ z. absurd (omega arith)))
 
-class-of-requires : tie.Need-class-of-requires
-class-of-requires c κs = search needs
-
 move-at-requires : tie.Need-move-at-requires
 move-at-requires c κs =
     let decoded = c .before .before .before .before in
@@ -143,7 +140,7 @@ plan-at-spec =
     opcode-at-requires
     varnode-at-requires
     read-input1-requires
-    class-of-requires
+    (λ c κs. search needs)
     move-at-requires
     returns
     branch-at-requires

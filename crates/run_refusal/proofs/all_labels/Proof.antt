@@ -25,9 +25,6 @@ loop-holds c = (omega arith, (λ k h. absurd (let z : ⊥ = omega arith in z)), 
 shared-slice-read-larger : tie.Need-shared-slice-read-larger Inv-loop μ-loop
 shared-slice-read-larger c = omega arith
 
-larger-requires : tie.Need-larger-requires Inv-loop μ-loop
-larger-requires c κs = search needs
-
 add-i : tie.Need-add-i Inv-loop μ-loop
 add-i c = omega arith
 
@@ -57,7 +54,7 @@ all-labels-spec =
     μ-loop
     loop-holds
     shared-slice-read-larger
-    larger-requires
+    (λ c κs. search needs)
     add-i
     loop-less
     loop-again

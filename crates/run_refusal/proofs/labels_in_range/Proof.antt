@@ -5,21 +5,6 @@ use Rattle.machine.specs.Calls.{labelsInRange}
 use Rattle.run_refusal.proofs.labels_in_range.Statement.{statement}
 use Rattle.run_refusal.proofs.labels_in_range.Tie as tie
 
-all-labels-requires : tie.Need-all-labels-requires
-all-labels-requires c κs = search needs
-
-all-labels-requires-2 : tie.Need-all-labels-requires-2
-all-labels-requires-2 c κs = search needs
-
-both-requires : tie.Need-both-requires
-both-requires c κs = search needs
-
-all-labels-requires-3 : tie.Need-all-labels-requires-3
-all-labels-requires-3 c κs = search needs
-
-both-requires-2 : tie.Need-both-requires-2
-both-requires-2 c κs = search needs
-
 returns : tie.Need-returns
 unfolding labelsInRange
 returns c =
@@ -31,9 +16,9 @@ pub labels-in-range-spec : {M : Type 1} → statement M
 labels-in-range-spec =
     tie.close
     (tie.spec
-    all-labels-requires
-    all-labels-requires-2
-    both-requires
-    all-labels-requires-3
-    both-requires-2
+    (λ c κs. search needs)
+    (λ c κs. search needs)
+    (λ c κs. search needs)
+    (λ c κs. search needs)
+    (λ c κs. search needs)
     returns)

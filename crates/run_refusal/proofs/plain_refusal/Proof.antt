@@ -5,14 +5,8 @@ use Rattle.run_refusal.proofs.plain_refusal.Statement.{statement}
 use Rattle.run_refusal.proofs.plain_refusal.Tie as tie
 use Rattle.run_refusal.proofs.plain_refusal.Lts as lts
 
-lengths-of-requires : tie.Need-lengths-of-requires
-lengths-of-requires c κs = search needs
-
-refusal-requires : tie.Need-refusal-requires
-refusal-requires c κs = search needs
-
 returns : tie.Need-returns
 returns c = c .refusal .ensures ∙ rw (c .before .lengths-of .ensures) refl
 
 pub plain-refusal-spec : {M : Type 1} → statement M
-plain-refusal-spec = tie.close (tie.spec lengths-of-requires refusal-requires returns)
+plain-refusal-spec = tie.close (tie.spec (λ c κs. search needs) (λ c κs. search needs) returns)

@@ -5,12 +5,6 @@ use Rattle.machine.specs.Calls.{sameLengths}
 use Rattle.run_refusal.proofs.same_lengths.Statement.{statement}
 use Rattle.run_refusal.proofs.same_lengths.Tie as tie
 
-both-requires : tie.Need-both-requires
-both-requires c κs = search needs
-
-both-requires-2 : tie.Need-both-requires-2
-both-requires-2 c κs = search needs
-
 returns : tie.Need-returns
 unfolding sameLengths
 returns c =
@@ -18,4 +12,4 @@ returns c =
     rw (c .both2 .ensures, at-both .both .ensures) refl
 
 pub same-lengths-spec : {M : Type 1} → statement M
-same-lengths-spec = tie.close (tie.spec both-requires both-requires-2 returns)
+same-lengths-spec = tie.close (tie.spec (λ c κs. search needs) (λ c κs. search needs) returns)

@@ -45,9 +45,6 @@ has-secret-requires-2 c κs =
     let pre = entry .before .pre in
     rw (c .varnode-at2 .ensures) (place _ _ (pre .valid) _ (pre .index) 2 (omega arith) (λ z. absurd (omega arith)))
 
-either-requires : tie.Need-either-requires
-either-requires c κs = search needs
-
 returns : tie.Need-returns
 unfolding operationAt
 returns c =
@@ -150,9 +147,6 @@ has-secret-requires-6 c κs =
     let pre = entry .before .pre in
     rw (c .varnode-at6 .ensures) (place _ _ (pre .valid) _ (pre .index) 2 (omega arith) (λ z. absurd (omega arith)))
 
-either-requires-2 : tie.Need-either-requires-2
-either-requires-2 c κs = search needs
-
 returns-4 : tie.Need-returns-4
 unfolding operationAt
 returns-4 c =
@@ -173,7 +167,7 @@ becomes-secret-spec =
     has-secret-requires
     varnode-at-requires-2
     has-secret-requires-2
-    either-requires
+    (λ c κs. search needs)
     returns
     varnode-at-requires-3
     has-secret-requires-3
@@ -186,5 +180,5 @@ becomes-secret-spec =
     has-secret-requires-5
     varnode-at-requires-6
     has-secret-requires-6
-    either-requires-2
+    (λ c κs. search needs)
     returns-4)

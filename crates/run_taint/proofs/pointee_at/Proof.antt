@@ -5,12 +5,9 @@ use borrow.Author.Needs.{needs}
 use Rattle.run_taint.proofs.pointee_at.Statement.{statement}
 use Rattle.run_taint.proofs.pointee_at.Tie as tie
 
-varnode-at-requires : tie.Need-varnode-at-requires
-varnode-at-requires c κs = search needs
-
 returns : tie.Need-returns
 unfolding operationAt pointee
 returns c = rw (c .varnode-at .ensures) refl
 
 pub pointee-at-spec : {M : Type 1} → statement M
-pointee-at-spec = tie.close (tie.spec varnode-at-requires returns)
+pointee-at-spec = tie.close (tie.spec (λ c κs. search needs) returns)

@@ -9,15 +9,6 @@ use Rattle.run_taint.proofs.Tainting.{watched-late, watched-tested, wat
 use Rattle.run_taint.proofs.sink_at.Statement.{statement}
 use Rattle.run_taint.proofs.sink_at.Tie as tie
 
-opcode-at-requires : tie.Need-opcode-at-requires
-opcode-at-requires c κs = search needs
-
-is-division-requires : tie.Need-is-division-requires
-is-division-requires c κs = search needs
-
-varnode-at-requires : tie.Need-varnode-at-requires
-varnode-at-requires c κs = search needs
-
 returns : tie.Need-returns
 returns c =
     let divided = c .before .before in
@@ -25,9 +16,6 @@ returns c =
     let n = decoded .opcode-at .result in
     exactStep _ _ _ (c .varnode-at .ensures
     ∙ rw (← decoded .opcode-at .ensures) (sym (watched-late n _ _ (divided .before .if1 .taken) ∙ rw (← divided .is-division .ensures, c .before .if2 .taken) refl)))
-
-absent-requires : tie.Need-absent-requires
-absent-requires c κs = search needs
 
 returns-2 : tie.Need-returns-2
 returns-2 c =
@@ -37,15 +25,6 @@ returns-2 c =
     exactStep _ _ _ (c .absent .ensures
     ∙ rw (← decoded .opcode-at .ensures) (sym (watched-late n _ _ (divided .before .if1 .taken) ∙ rw (← divided .is-division .ensures, c .before .if2 .left) refl)))
 
-accesses-requires : tie.Need-accesses-requires
-accesses-requires c κs = search needs
-
-either-requires : tie.Need-either-requires
-either-requires c κs = search needs
-
-varnode-at-requires-2 : tie.Need-varnode-at-requires-2
-varnode-at-requires-2 c κs = search needs
-
 returns-3 : tie.Need-returns-3
 returns-3 c =
     let tested = c .before .before in
@@ -54,21 +33,12 @@ returns-3 c =
     let h : accesses n || eqb n 5 ≡ true = rw (← tested .before .accesses .ensures) (sym (tested .either .ensures) ∙ c .before .if3 .taken) in
     exactStep _ _ _ (c .varnode-at2 .ensures ∙ rw (← decoded .opcode-at .ensures) (sym (watched-tested n _ _ h)))
 
-jumps-requires : tie.Need-jumps-requires
-jumps-requires c κs = search needs
-
-varnode-at-requires-3 : tie.Need-varnode-at-requires-3
-varnode-at-requires-3 c κs = search needs
-
 returns-4 : tie.Need-returns-4
 returns-4 c =
     let jumped = c .before .before in
     let tested = jumped .before .before in
     let decoded = tested .before .before .before in
     exactStep _ _ _ (c .varnode-at3 .ensures ∙ rw (← decoded .opcode-at .ensures, ← jumped .jumps .ensures, c .before .if4 .taken) refl)
-
-absent-requires-2 : tie.Need-absent-requires-2
-absent-requires-2 c κs = search needs
 
 returns-5 : tie.Need-returns-5
 returns-5 c =
@@ -84,18 +54,18 @@ pub sink-at-spec : {M : Type 1} → statement M
 sink-at-spec =
     tie.close
     (tie.spec
-    opcode-at-requires
-    is-division-requires
-    varnode-at-requires
+    (λ c κs. search needs)
+    (λ c κs. search needs)
+    (λ c κs. search needs)
     returns
-    absent-requires
+    (λ c κs. search needs)
     returns-2
-    accesses-requires
-    either-requires
-    varnode-at-requires-2
+    (λ c κs. search needs)
+    (λ c κs. search needs)
+    (λ c κs. search needs)
     returns-3
-    jumps-requires
-    varnode-at-requires-3
+    (λ c κs. search needs)
+    (λ c κs. search needs)
     returns-4
-    absent-requires-2
+    (λ c κs. search needs)
     returns-5)

@@ -7,23 +7,11 @@ use borrow.Author.Needs.{needs}
 use Rattle.run_taint.proofs.target_at.Statement.{statement}
 use Rattle.run_taint.proofs.target_at.Tie as tie
 
-opcode-at-requires : tie.Need-opcode-at-requires
-opcode-at-requires c κs = search needs
-
-varnode-at-requires : tie.Need-varnode-at-requires
-varnode-at-requires c κs = search needs
-
-pointee-at-requires : tie.Need-pointee-at-requires
-pointee-at-requires c κs = search needs
-
 returns : tie.Need-returns
 unfolding operationAt
 returns c =
     let decoded = c .before .before .before in
     c .pointee-at .ensures ∙ rw (c .before .varnode-at .ensures) (stores _ _ (opcode-is 3 (decoded .opcode-at .ensures) (c .before .before .if1 .taken)))
-
-varnode-at-requires-2 : tie.Need-varnode-at-requires-2
-varnode-at-requires-2 c κs = search needs
 
 returns-2 : tie.Need-returns-2
 unfolding operationAt
@@ -32,4 +20,4 @@ returns-2 c =
     c .varnode-at2 .ensures ∙ outputs _ _ (opcode-is-not 3 (decoded .opcode-at .ensures) (c .before .if1 .left))
 
 pub target-at-spec : {M : Type 1} → statement M
-target-at-spec = tie.close (tie.spec opcode-at-requires varnode-at-requires pointee-at-requires returns varnode-at-requires-2 returns-2)
+target-at-spec = tie.close (tie.spec (λ c κs. search needs) (λ c κs. search needs) (λ c κs. search needs) returns (λ c κs. search needs) returns-2)

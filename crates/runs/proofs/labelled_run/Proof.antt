@@ -7,27 +7,6 @@ use borrow.Author.Needs.{needs}
 use Rattle.runs.proofs.labelled_run.Statement.{statement}
 use Rattle.runs.proofs.labelled_run.Tie as tie
 
-labelled-refusal-requires : tie.Need-labelled-refusal-requires
-labelled-refusal-requires c κs = search needs
-
-same-length : tie.Need-same-length
-same-length c = search needs
-
-same-length-2 : tie.Need-same-length-2
-same-length-2 c = search needs
-
-same-length-3 : tie.Need-same-length-3
-same-length-3 c = search needs
-
-same-length-4 : tie.Need-same-length-4
-same-length-4 c = search needs
-
-same-length-5 : tie.Need-same-length-5
-same-length-5 c = search needs
-
-same-length-6 : tie.Need-same-length-6
-same-length-6 c = search needs
-
 returns : tie.Need-returns
 unfolding labelledRun
 returns c =
@@ -41,27 +20,6 @@ run-any-requires c κs =
     let at-labelled-refusal = past1 .before .before in
     let a = accepted _ _ _ _ _ _ _ (at-labelled-refusal .labelled-refusal .ensures) (past1 .if1 .left) in
     (a .0, a .1, omega arith, labels-fit (a .2))
-
-same-length-7 : tie.Need-same-length-7
-same-length-7 c = search needs
-
-same-length-8 : tie.Need-same-length-8
-same-length-8 c = search needs
-
-same-length-9 : tie.Need-same-length-9
-same-length-9 c = search needs
-
-same-length-10 : tie.Need-same-length-10
-same-length-10 c = search needs
-
-same-length-11 : tie.Need-same-length-11
-same-length-11 c = search needs
-
-same-length-12 : tie.Need-same-length-12
-same-length-12 c = search needs
-
-same-length-13 : tie.Need-same-length-13
-same-length-13 c = search needs
 
 returns-2 : tie.Need-returns-2
 unfolding labelledRun
@@ -79,20 +37,20 @@ pub labelled-run-spec : {M : Type 1} → statement M
 labelled-run-spec =
     tie.close
     (tie.spec
-    labelled-refusal-requires
-    same-length
-    same-length-2
-    same-length-3
-    same-length-4
-    same-length-5
-    same-length-6
+    (λ c κs. search needs)
+    (λ c. search needs)
+    (λ c. search needs)
+    (λ c. search needs)
+    (λ c. search needs)
+    (λ c. search needs)
+    (λ c. search needs)
     returns
     run-any-requires
-    same-length-7
-    same-length-8
-    same-length-9
-    same-length-10
-    same-length-11
-    same-length-12
-    same-length-13
+    (λ c. search needs)
+    (λ c. search needs)
+    (λ c. search needs)
+    (λ c. search needs)
+    (λ c. search needs)
+    (λ c. search needs)
+    (λ c. search needs)
     returns-2)

@@ -7,32 +7,11 @@ use borrow.Author.Needs.{needs}
 use Rattle.runs.proofs.run.Statement.{statement}
 use Rattle.runs.proofs.run.Tie as tie
 
-plain-refusal-requires : tie.Need-plain-refusal-requires
-plain-refusal-requires c κs = search needs
-
-same-length : tie.Need-same-length
-same-length c = search needs
-
-same-length-2 : tie.Need-same-length-2
-same-length-2 c = search needs
-
-same-length-3 : tie.Need-same-length-3
-same-length-3 c = search needs
-
 returns : tie.Need-returns
 unfolding plainRun
 returns c =
     let at-plain-refusal = c .before .before in
     leaves-as-lent _ _ _ _ _ _ _ _ _ (at-plain-refusal .plain-refusal .ensures) (c .if1 .taken)
-
-slice-aggregate-run-any : tie.Need-slice-aggregate-run-any
-slice-aggregate-run-any c = search needs
-
-slice-aggregate-run-any-2 : tie.Need-slice-aggregate-run-any-2
-slice-aggregate-run-any-2 c = search needs
-
-slice-aggregate-run-any-3 : tie.Need-slice-aggregate-run-any-3
-slice-aggregate-run-any-3 c = search needs
 
 run-any-requires : tie.Need-run-any-requires
 unfolding unlabelled
@@ -42,18 +21,6 @@ run-any-requires c κs =
     let at-plain-refusal = past1 .before .before in
     let a = accepted _ _ _ _ _ _ _ (at-plain-refusal .plain-refusal .ensures) (past1 .if1 .left) in
     (a .0, a .1, omega arith, none-fit)
-
-same-length-4 : tie.Need-same-length-4
-same-length-4 c = search needs
-
-same-length-5 : tie.Need-same-length-5
-same-length-5 c = search needs
-
-same-length-6 : tie.Need-same-length-6
-same-length-6 c = search needs
-
-same-length-7 : tie.Need-same-length-7
-same-length-7 c = search needs
 
 returns-2 : tie.Need-returns-2
 unfolding plainRun unlabelled
@@ -71,17 +38,17 @@ pub run-spec : {M : Type 1} → statement M
 run-spec =
     tie.close
     (tie.spec
-    plain-refusal-requires
-    same-length
-    same-length-2
-    same-length-3
+    (λ c κs. search needs)
+    (λ c. search needs)
+    (λ c. search needs)
+    (λ c. search needs)
     returns
-    slice-aggregate-run-any
-    slice-aggregate-run-any-2
-    slice-aggregate-run-any-3
+    (λ c. search needs)
+    (λ c. search needs)
+    (λ c. search needs)
     run-any-requires
-    same-length-4
-    same-length-5
-    same-length-6
-    same-length-7
+    (λ c. search needs)
+    (λ c. search needs)
+    (λ c. search needs)
+    (λ c. search needs)
     returns-2)

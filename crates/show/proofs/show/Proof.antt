@@ -6,24 +6,6 @@ use Rattle.show.specs.Show.{shown}
 use Rattle.show.proofs.show.Statement.{statement}
 use Rattle.show.proofs.show.Tie as tie
 
-shown-in-requires : tie.Need-shown-in-requires
-shown-in-requires c κs = search needs
-
-shown-in-requires-2 : tie.Need-shown-in-requires-2
-shown-in-requires-2 c κs = search needs
-
-shown-in-requires-3 : tie.Need-shown-in-requires-3
-shown-in-requires-3 c κs = search needs
-
-sub-result : tie.Need-sub-result
-sub-result c = search needs
-
-part-result-start : tie.Need-part-result-start
-part-result-start c = search needs
-
-part-result-end : tie.Need-part-result-end
-part-result-end c = search needs
-
 returns : tie.Need-returns
 unfolding shown
 returns c = c .shown-in .ensures ∙ simp (c .before .match .keys1)
@@ -44,12 +26,12 @@ pub show-spec : {M : Type 1} → statement M
 show-spec =
     tie.close
     (tie.spec
-    shown-in-requires
-    shown-in-requires-2
-    shown-in-requires-3
-    sub-result
-    part-result-start
-    part-result-end
+    (λ c κs. search needs)
+    (λ c κs. search needs)
+    (λ c κs. search needs)
+    (λ c. search needs)
+    (λ c. search needs)
+    (λ c. search needs)
     returns
     returns-2
     returns-3

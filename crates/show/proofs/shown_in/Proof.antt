@@ -7,29 +7,11 @@ use Rattle.show.specs.Show.{shownIn}
 use Rattle.show.proofs.shown_in.Statement.{statement}
 use Rattle.show.proofs.shown_in.Tie as tie
 
-showable-requires : tie.Need-showable-requires
-showable-requires c κs = search needs
-
 add-end : tie.Need-add-end
 add-end c = omega (arith, showable-end _ _ _ (sym (c .before .showable .ensures) ∙ c .if1 .taken))
 
-sub-result : tie.Need-sub-result
-sub-result c = search needs
-
-part-result-start : tie.Need-part-result-start
-part-result-start c = search needs
-
 part-result-end : tie.Need-part-result-end
 part-result-end c = omega (arith, showable-end _ _ _ (sym (c .before .showable .ensures) ∙ c .if1 .taken))
-
-sub-result-2 : tie.Need-sub-result-2
-sub-result-2 c = search needs
-
-part-result-start-2 : tie.Need-part-result-start-2
-part-result-start-2 c = search needs
-
-part-result-end-2 : tie.Need-part-result-end-2
-part-result-end-2 c = search needs
 
 returns : tie.Need-returns
 unfolding shownIn
@@ -43,13 +25,13 @@ pub shown-in-spec : {M : Type 1} → statement M
 shown-in-spec =
     tie.close
     (tie.spec
-    showable-requires
+    (λ c κs. search needs)
     add-end
-    sub-result
-    part-result-start
+    (λ c. search needs)
+    (λ c. search needs)
     part-result-end
-    sub-result-2
-    part-result-start-2
-    part-result-end-2
+    (λ c. search needs)
+    (λ c. search needs)
+    (λ c. search needs)
     returns
     returns-2)

@@ -7,11 +7,8 @@ use Rattle.undrelvoa.proofs.Shown.{shown-length}
 use Rattle.undrelvoa.proofs.shown_length.Statement.{statement}
 use Rattle.undrelvoa.proofs.shown_length.Tie as tie
 
-show-requires : tie.Need-show-requires
-show-requires c κs = search needs
-
 returns : tie.Need-returns
 returns c = ap (λ (w : View). length (w .bytes)) (c .show .ensures) ∙ shown-length _ _ _ _ _ _
 
 pub shown-length-spec : {M : Type 1} → statement M
-shown-length-spec = tie.close (tie.spec show-requires returns)
+shown-length-spec = tie.close (tie.spec (λ c κs. search needs) returns)

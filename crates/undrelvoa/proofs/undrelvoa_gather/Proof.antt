@@ -6,9 +6,6 @@ use Rattle.undrelvoa_faults.proofs.Passed.{gather-passed}
 use Rattle.undrelvoa.proofs.undrelvoa_gather.Statement.{statement}
 use Rattle.undrelvoa.proofs.undrelvoa_gather.Tie as tie
 
-of-gather-requires : tie.Need-of-gather-requires
-of-gather-requires c κs = search needs
-
 returns : tie.Need-returns
 returns c = (c .before .of-gather .ensures, rw (ne-eqb (c .before .of-gather .result) 0 (c .if1 .taken)) refl)
 
@@ -20,9 +17,6 @@ value-of-requires c κs =
 slice-write-out : tie.Need-slice-write-out
 slice-write-out c = gather-passed _ _ _ _ _ (sym (c .before .before .of-gather .ensures) ∙ c .before .if1 .left) .0
 
-same-length : tie.Need-same-length
-same-length c = search needs
-
 returns-2 : tie.Need-returns-2
 returns-2 c =
     let checked = c .before in
@@ -32,9 +26,9 @@ pub undrelvoa-gather-spec : {M : Type 1} → statement M
 undrelvoa-gather-spec =
     tie.close
     (tie.spec
-    of-gather-requires
+    (λ c κs. search needs)
     returns
     value-of-requires
     slice-write-out
-    same-length
+    (λ c. search needs)
     returns-2)

@@ -11,15 +11,6 @@ returns : tie.Need-returns
 unfolding roomFault
 returns c = (rw (lt-leb placeLength _ (c .if1 .taken)) refl, refl)
 
-shown-length-requires : tie.Need-shown-length-requires
-shown-length-requires c κs = search needs
-
-write-place-requires : tie.Need-write-place-requires
-write-place-requires c κs = search needs
-
-same-length : tie.Need-same-length
-same-length c = search needs
-
 returns-2 : tie.Need-returns-2
 unfolding roomFault placeWords
 returns-2 c =
@@ -32,7 +23,7 @@ undrelvoa-show-spec =
     tie.close
     (tie.spec
     returns
-    shown-length-requires
-    write-place-requires
-    same-length
+    (λ c κs. search needs)
+    (λ c κs. search needs)
+    (λ c. search needs)
     returns-2)

@@ -11,15 +11,6 @@ returns : tie.Need-returns
 unfolding roomFault
 returns c = (rw (lt-leb reportLength _ (c .if1 .taken)) refl, refl)
 
-validate-requires : tie.Need-validate-requires
-validate-requires c κs = search needs
-
-write-report-requires : tie.Need-write-report-requires
-write-report-requires c κs = search needs
-
-same-length : tie.Need-same-length
-same-length c = search needs
-
 returns-2 : tie.Need-returns-2
 unfolding roomFault verdictWords
 returns-2 c =
@@ -28,4 +19,4 @@ returns-2 c =
     (rw (le-leb reportLength _ (at-verdict .before .if1 .left)) refl, at-report .write-report .ensures ∙ rw (at-verdict .validate .ensures) refl)
 
 pub undrelvoa-validate-spec : {M : Type 1} → statement M
-undrelvoa-validate-spec = tie.close (tie.spec returns validate-requires write-report-requires same-length returns-2)
+undrelvoa-validate-spec = tie.close (tie.spec returns (λ c κs. search needs) (λ c κs. search needs) (λ c. search needs) returns-2)

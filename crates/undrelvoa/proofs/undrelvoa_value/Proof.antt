@@ -6,9 +6,6 @@ use Rattle.undrelvoa_faults.proofs.Passed.{value-passed}
 use Rattle.undrelvoa.proofs.undrelvoa_value.Statement.{statement}
 use Rattle.undrelvoa.proofs.undrelvoa_value.Tie as tie
 
-of-value-requires : tie.Need-of-value-requires
-of-value-requires c κs = search needs
-
 returns : tie.Need-returns
 returns c = (c .before .of-value .ensures, rw (ne-eqb (c .before .of-value .result) 0 (c .if1 .taken)) refl)
 
@@ -17,9 +14,6 @@ value-requires c κs = value-passed _ _ _ _ _ _ _ (sym (c .before .of-value .ens
 
 slice-write-out : tie.Need-slice-write-out
 slice-write-out c = value-passed _ _ _ _ _ _ _ (sym (c .before .before .of-value .ensures) ∙ c .before .if1 .left) .0
-
-same-length : tie.Need-same-length
-same-length c = search needs
 
 returns-2 : tie.Need-returns-2
 returns-2 c =
@@ -30,9 +24,9 @@ pub undrelvoa-value-spec : {M : Type 1} → statement M
 undrelvoa-value-spec =
     tie.close
     (tie.spec
-    of-value-requires
+    (λ c κs. search needs)
     returns
     value-requires
     slice-write-out
-    same-length
+    (λ c. search needs)
     returns-2)

@@ -5,24 +5,6 @@ use Rattle.undrelvoa_faults.specs.Faults.{gatherFault}
 use Rattle.undrelvoa_faults.proofs.of_gather.Statement.{statement}
 use Rattle.undrelvoa_faults.proofs.of_gather.Tie as tie
 
-within-requires : tie.Need-within-requires
-within-requires c κs = search needs
-
-pick-requires : tie.Need-pick-requires
-pick-requires c κs = search needs
-
-is-size-requires : tie.Need-is-size-requires
-is-size-requires c κs = search needs
-
-pick-requires-2 : tie.Need-pick-requires-2
-pick-requires-2 c κs = search needs
-
-pick-requires-3 : tie.Need-pick-requires-3
-pick-requires-3 c κs = search needs
-
-pick-requires-4 : tie.Need-pick-requires-4
-pick-requires-4 c κs = search needs
-
 returns : tie.Need-returns
 unfolding gatherFault
 returns c =
@@ -34,10 +16,10 @@ pub of-gather-spec : {M : Type 1} → statement M
 of-gather-spec =
     tie.close
     (tie.spec
-    within-requires
-    pick-requires
-    is-size-requires
-    pick-requires-2
-    pick-requires-3
-    pick-requires-4
+    (λ c κs. search needs)
+    (λ c κs. search needs)
+    (λ c κs. search needs)
+    (λ c κs. search needs)
+    (λ c κs. search needs)
+    (λ c κs. search needs)
     returns)

@@ -5,27 +5,6 @@ use Rattle.undrelvoa_faults.specs.Faults.{scatterFault}
 use Rattle.undrelvoa_faults.proofs.of_scatter.Statement.{statement}
 use Rattle.undrelvoa_faults.proofs.of_scatter.Tie as tie
 
-within-requires : tie.Need-within-requires
-within-requires c κs = search needs
-
-holds-requires : tie.Need-holds-requires
-holds-requires c κs = search needs
-
-both-requires : tie.Need-both-requires
-both-requires c κs = search needs
-
-pick-requires : tie.Need-pick-requires
-pick-requires c κs = search needs
-
-is-size-requires : tie.Need-is-size-requires
-is-size-requires c κs = search needs
-
-pick-requires-2 : tie.Need-pick-requires-2
-pick-requires-2 c κs = search needs
-
-pick-requires-3 : tie.Need-pick-requires-3
-pick-requires-3 c κs = search needs
-
 returns : tie.Need-returns
 unfolding scatterFault
 returns c =
@@ -46,11 +25,11 @@ pub of-scatter-spec : {M : Type 1} → statement M
 of-scatter-spec =
     tie.close
     (tie.spec
-    within-requires
-    holds-requires
-    both-requires
-    pick-requires
-    is-size-requires
-    pick-requires-2
-    pick-requires-3
+    (λ c κs. search needs)
+    (λ c κs. search needs)
+    (λ c κs. search needs)
+    (λ c κs. search needs)
+    (λ c κs. search needs)
+    (λ c κs. search needs)
+    (λ c κs. search needs)
     returns)

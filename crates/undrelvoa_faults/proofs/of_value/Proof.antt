@@ -5,48 +5,6 @@ use Rattle.undrelvoa_faults.specs.Faults.{valueFault}
 use Rattle.undrelvoa_faults.proofs.of_value.Statement.{statement}
 use Rattle.undrelvoa_faults.proofs.of_value.Tie as tie
 
-is-division-requires : tie.Need-is-division-requires
-is-division-requires c κs = search needs
-
-both-requires : tie.Need-both-requires
-both-requires c κs = search needs
-
-pick-requires : tie.Need-pick-requires
-pick-requires c κs = search needs
-
-sizes-agree-requires : tie.Need-sizes-agree-requires
-sizes-agree-requires c κs = search needs
-
-pick-requires-2 : tie.Need-pick-requires-2
-pick-requires-2 c κs = search needs
-
-holds-requires : tie.Need-holds-requires
-holds-requires c κs = search needs
-
-holds-requires-2 : tie.Need-holds-requires-2
-holds-requires-2 c κs = search needs
-
-both-requires-2 : tie.Need-both-requires-2
-both-requires-2 c κs = search needs
-
-pick-requires-3 : tie.Need-pick-requires-3
-pick-requires-3 c κs = search needs
-
-sizes-present-requires : tie.Need-sizes-present-requires
-sizes-present-requires c κs = search needs
-
-pick-requires-4 : tie.Need-pick-requires-4
-pick-requires-4 c κs = search needs
-
-both-requires-3 : tie.Need-both-requires-3
-both-requires-3 c κs = search needs
-
-pick-requires-5 : tie.Need-pick-requires-5
-pick-requires-5 c κs = search needs
-
-pick-requires-6 : tie.Need-pick-requires-6
-pick-requires-6 c κs = search needs
-
 returns : tie.Need-returns
 unfolding valueFault
 returns c =
@@ -77,18 +35,18 @@ pub of-value-spec : {M : Type 1} → statement M
 of-value-spec =
     tie.close
     (tie.spec
-    is-division-requires
-    both-requires
-    pick-requires
-    sizes-agree-requires
-    pick-requires-2
-    holds-requires
-    holds-requires-2
-    both-requires-2
-    pick-requires-3
-    sizes-present-requires
-    pick-requires-4
-    both-requires-3
-    pick-requires-5
-    pick-requires-6
+    (λ c κs. search needs)
+    (λ c κs. search needs)
+    (λ c κs. search needs)
+    (λ c κs. search needs)
+    (λ c κs. search needs)
+    (λ c κs. search needs)
+    (λ c κs. search needs)
+    (λ c κs. search needs)
+    (λ c κs. search needs)
+    (λ c κs. search needs)
+    (λ c κs. search needs)
+    (λ c κs. search needs)
+    (λ c κs. search needs)
+    (λ c κs. search needs)
     returns)

@@ -5,27 +5,6 @@ use Rattle.undrelvoa_faults.specs.Faults.{sizesPresent}
 use Rattle.undrelvoa_faults.proofs.sizes_present.Statement.{statement}
 use Rattle.undrelvoa_faults.proofs.sizes_present.Tie as tie
 
-is-size-requires : tie.Need-is-size-requires
-is-size-requires c κs = search needs
-
-is-size-requires-2 : tie.Need-is-size-requires-2
-is-size-requires-2 c κs = search needs
-
-both-requires : tie.Need-both-requires
-both-requires c κs = search needs
-
-has-place-requires : tie.Need-has-place-requires
-has-place-requires c κs = search needs
-
-is-size-requires-3 : tie.Need-is-size-requires-3
-is-size-requires-3 c κs = search needs
-
-pick-test-requires : tie.Need-pick-test-requires
-pick-test-requires c κs = search needs
-
-both-requires-2 : tie.Need-both-requires-2
-both-requires-2 c κs = search needs
-
 returns : tie.Need-returns
 unfolding sizesPresent
 returns c =
@@ -45,11 +24,11 @@ pub sizes-present-spec : {M : Type 1} → statement M
 sizes-present-spec =
     tie.close
     (tie.spec
-    is-size-requires
-    is-size-requires-2
-    both-requires
-    has-place-requires
-    is-size-requires-3
-    pick-test-requires
-    both-requires-2
+    (λ c κs. search needs)
+    (λ c κs. search needs)
+    (λ c κs. search needs)
+    (λ c κs. search needs)
+    (λ c κs. search needs)
+    (λ c κs. search needs)
+    (λ c κs. search needs)
     returns)

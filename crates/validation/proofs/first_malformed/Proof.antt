@@ -29,9 +29,6 @@ Inv-operations address-size lengths list count rule₀ i₀ rule i =
 abbrev μ-operations : tie.MeasureT-operations
 μ-operations address-size lengths list count rule₀ i₀ rule i = count - i
 
-operation-count-requires : tie.Need-operation-count-requires Inv-loop μ-loop Inv-operations μ-operations
-operation-count-requires c κs = search needs
-
 operations-holds : tie.Need-operations-holds Inv-loop μ-loop Inv-operations μ-operations
 unfolding operationCount
 operations-holds c = (omega arith, refl, first-start _ _)
@@ -50,24 +47,6 @@ loop-holds c = (omega arith, c .before .before .before .before .operations .inv 
 decode-at-requires : tie.Need-decode-at-requires Inv-loop μ-loop Inv-operations μ-operations
 unfolding operationCount
 decode-at-requires c κs = omega arith
-
-enum-known-v : tie.Need-enum-known-v Inv-loop μ-loop Inv-operations μ-operations
-enum-known-v c = search needs
-
-enum-told : tie.Need-enum-told Inv-loop μ-loop Inv-operations μ-operations
-enum-told c = search needs
-
-breaks-place-requires : tie.Need-breaks-place-requires Inv-loop μ-loop Inv-operations μ-operations
-breaks-place-requires c κs = search needs
-
-either-requires : tie.Need-either-requires Inv-loop μ-loop Inv-operations μ-operations
-either-requires c κs = search needs
-
-breaks-range-requires : tie.Need-breaks-range-requires Inv-loop μ-loop Inv-operations μ-operations
-breaks-range-requires c κs = search needs
-
-either-requires-2 : tie.Need-either-requires-2 Inv-loop μ-loop Inv-operations μ-operations
-either-requires-2 c κs = search needs
 
 add-place : tie.Need-add-place Inv-loop μ-loop Inv-operations μ-operations
 add-place c = omega arith
@@ -143,18 +122,18 @@ first-malformed-spec =
     μ-loop
     Inv-operations
     μ-operations
-    operation-count-requires
+    (λ c κs. search needs)
     operations-holds
     breaks-head-requires
     opcode-at-requires
     loop-holds
     decode-at-requires
-    enum-known-v
-    enum-told
-    breaks-place-requires
-    either-requires
-    breaks-range-requires
-    either-requires-2
+    (λ c. search needs)
+    (λ c. search needs)
+    (λ c κs. search needs)
+    (λ c κs. search needs)
+    (λ c κs. search needs)
+    (λ c κs. search needs)
     add-place
     loop-less
     loop-again

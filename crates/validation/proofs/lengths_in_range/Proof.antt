@@ -5,21 +5,6 @@ use Rattle.validation.specs.Verdict.{lengthsInRange}
 use Rattle.validation.proofs.lengths_in_range.Statement.{statement}
 use Rattle.validation.proofs.lengths_in_range.Tie as tie
 
-operation-count-requires : tie.Need-operation-count-requires
-operation-count-requires c κs = search needs
-
-both-requires : tie.Need-both-requires
-both-requires c κs = search needs
-
-both-requires-2 : tie.Need-both-requires-2
-both-requires-2 c κs = search needs
-
-both-requires-3 : tie.Need-both-requires-3
-both-requires-3 c κs = search needs
-
-both-requires-4 : tie.Need-both-requires-4
-both-requires-4 c κs = search needs
-
 returns : tie.Need-returns
 unfolding lengthsInRange
 returns c =
@@ -31,9 +16,9 @@ pub lengths-in-range-spec : {M : Type 1} → statement M
 lengths-in-range-spec =
     tie.close
     (tie.spec
-    operation-count-requires
-    both-requires
-    both-requires-2
-    both-requires-3
-    both-requires-4
+    (λ c κs. search needs)
+    (λ c κs. search needs)
+    (λ c κs. search needs)
+    (λ c κs. search needs)
+    (λ c κs. search needs)
     returns)

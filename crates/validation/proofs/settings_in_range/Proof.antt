@@ -5,15 +5,9 @@ use Rattle.validation.specs.Verdict.{settingsInRange}
 use Rattle.validation.proofs.settings_in_range.Statement.{statement}
 use Rattle.validation.proofs.settings_in_range.Tie as tie
 
-is-size-requires : tie.Need-is-size-requires
-is-size-requires c κs = search needs
-
-both-requires : tie.Need-both-requires
-both-requires c κs = search needs
-
 returns : tie.Need-returns
 unfolding settingsInRange
 returns c = rw (c .both .ensures, c .before .is-size .ensures) refl
 
 pub settings-in-range-spec : {M : Type 1} → statement M
-settings-in-range-spec = tie.close (tie.spec is-size-requires both-requires returns)
+settings-in-range-spec = tie.close (tie.spec (λ c κs. search needs) (λ c κs. search needs) returns)

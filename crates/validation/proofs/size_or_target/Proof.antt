@@ -6,33 +6,9 @@ use Rattle.validation.specs.Verdict.{sizeOrTarget}
 use Rattle.validation.proofs.size_or_target.Statement.{statement}
 use Rattle.validation.proofs.size_or_target.Tie as tie
 
-opcode-at-requires : tie.Need-opcode-at-requires
-opcode-at-requires c κs = search needs
-
-varnode-at-requires : tie.Need-varnode-at-requires
-varnode-at-requires c κs = search needs
-
-varnode-at-requires-2 : tie.Need-varnode-at-requires-2
-varnode-at-requires-2 c κs = search needs
-
-varnode-at-requires-3 : tie.Need-varnode-at-requires-3
-varnode-at-requires-3 c κs = search needs
-
-operation-count-requires : tie.Need-operation-count-requires
-operation-count-requires c κs = search needs
-
 breaks-target-requires : tie.Need-breaks-target-requires
 unfolding operationCount
 breaks-target-requires c κs = search needs
-
-pick-requires : tie.Need-pick-requires
-pick-requires c κs = search needs
-
-breaks-size-requires : tie.Need-breaks-size-requires
-breaks-size-requires c κs = search needs
-
-pick-requires-2 : tie.Need-pick-requires-2
-pick-requires-2 c κs = search needs
 
 returns : tie.Need-returns
 unfolding sizeOrTarget
@@ -58,13 +34,13 @@ pub size-or-target-spec : {M : Type 1} → statement M
 size-or-target-spec =
     tie.close
     (tie.spec
-    opcode-at-requires
-    varnode-at-requires
-    varnode-at-requires-2
-    varnode-at-requires-3
-    operation-count-requires
+    (λ c κs. search needs)
+    (λ c κs. search needs)
+    (λ c κs. search needs)
+    (λ c κs. search needs)
+    (λ c κs. search needs)
     breaks-target-requires
-    pick-requires
-    breaks-size-requires
-    pick-requires-2
+    (λ c κs. search needs)
+    (λ c κs. search needs)
+    (λ c κs. search needs)
     returns)

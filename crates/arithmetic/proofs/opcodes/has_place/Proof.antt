@@ -7,18 +7,6 @@ use Rattle.arithmetic.proofs.Table.{with-output, with-input0, with-inpu
 use Rattle.arithmetic.proofs.opcodes.has_place.Statement.{statement}
 use Rattle.arithmetic.proofs.opcodes.has_place.Tie as tie
 
-has-bit-requires : tie.Need-has-bit-requires
-has-bit-requires c κs = search needs
-
-has-bit-requires-2 : tie.Need-has-bit-requires-2
-has-bit-requires-2 c κs = search needs
-
-has-bit-requires-3 : tie.Need-has-bit-requires-3
-has-bit-requires-3 c κs = search needs
-
-has-bit-requires-4 : tie.Need-has-bit-requires-4
-has-bit-requires-4 c κs = search needs
-
 returns : tie.Need-returns
 returns c = c .has-bit .ensures ∙ with-output _ ∙ ap (hasPlace _) (sym (c .before .match .keys1))
 
@@ -38,10 +26,10 @@ pub has-place-spec : {M : Type 1} → statement M
 has-place-spec =
     tie.close
     (tie.spec
-    has-bit-requires
-    has-bit-requires-2
-    has-bit-requires-3
-    has-bit-requires-4
+    (λ c κs. search needs)
+    (λ c κs. search needs)
+    (λ c κs. search needs)
+    (λ c κs. search needs)
     returns
     returns-2
     returns-3

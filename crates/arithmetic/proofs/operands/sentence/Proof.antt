@@ -5,14 +5,8 @@ use Rattle.integer.proofs.Booleans.{pick-is}
 use Rattle.arithmetic.proofs.operands.sentence.Statement.{statement}
 use Rattle.arithmetic.proofs.operands.sentence.Tie as tie
 
-has-bit-requires : tie.Need-has-bit-requires
-has-bit-requires c κs = search needs
-
-pick-test-requires : tie.Need-pick-test-requires
-pick-test-requires c κs = search needs
-
 returns : tie.Need-returns
 returns c = pick-is (c .pick-test .ensures) (c .before .has-bit .ensures) refl refl
 
 pub sentence-spec : {M : Type 1} → statement M
-sentence-spec = tie.close (tie.spec has-bit-requires pick-test-requires returns)
+sentence-spec = tie.close (tie.spec (λ c κs. search needs) (λ c κs. search needs) returns)

@@ -9,20 +9,11 @@ use Rattle.arithmetic.proofs.Agreement.{tested, by-sentence}
 use Rattle.arithmetic.proofs.operands.sizes_agree.Statement.{statement}
 use Rattle.arithmetic.proofs.operands.sizes_agree.Tie as tie
 
-has-bit-requires : tie.Need-has-bit-requires
-has-bit-requires c κs = search needs
-
 returns : tie.Need-returns
 unfolding sizesAgree
 returns c =
     let a = c .before .before .args in
     rw (tested (c .before .has-bit .ensures) (kept-set _) (c .if1 .taken)) at (by-sentence (sizesOf (a .opcode)) (a .address-size) (a .size) (a .size0) (a .size1))
-
-has-bit-requires-2 : tie.Need-has-bit-requires-2
-has-bit-requires-2 c κs = search needs
-
-both-requires : tie.Need-both-requires
-both-requires c κs = search needs
 
 returns-2 : tie.Need-returns-2
 unfolding sizesAgree
@@ -33,48 +24,6 @@ returns-2 c =
     c .both .ensures
     ∙ (rw (tested (past-kept .before .has-bit .ensures) (kept-set _) (past-kept .if1 .left), tested (at-equal .has-bit2 .ensures) (equal-set _) (c .before .if2 .taken))
     at (by-sentence (sizesOf (a .opcode)) (a .address-size) (a .size) (a .size0) (a .size1)))
-
-sentence-requires : tie.Need-sentence-requires
-sentence-requires c κs = search needs
-
-sentence-requires-2 : tie.Need-sentence-requires-2
-sentence-requires-2 c κs = search needs
-
-sentence-requires-3 : tie.Need-sentence-requires-3
-sentence-requires-3 c κs = search needs
-
-sentence-requires-4 : tie.Need-sentence-requires-4
-sentence-requires-4 c κs = search needs
-
-add-up-requires : tie.Need-add-up-requires
-add-up-requires c κs = search needs
-
-sentence-requires-5 : tie.Need-sentence-requires-5
-sentence-requires-5 c κs = search needs
-
-both-requires-2 : tie.Need-both-requires-2
-both-requires-2 c κs = search needs
-
-sentence-requires-6 : tie.Need-sentence-requires-6
-sentence-requires-6 c κs = search needs
-
-both-requires-3 : tie.Need-both-requires-3
-both-requires-3 c κs = search needs
-
-both-requires-4 : tie.Need-both-requires-4
-both-requires-4 c κs = search needs
-
-sentence-requires-7 : tie.Need-sentence-requires-7
-sentence-requires-7 c κs = search needs
-
-sentence-requires-8 : tie.Need-sentence-requires-8
-sentence-requires-8 c κs = search needs
-
-both-requires-5 : tie.Need-both-requires-5
-both-requires-5 c κs = search needs
-
-sentence-requires-9 : tie.Need-sentence-requires-9
-sentence-requires-9 c κs = search needs
 
 returns-3 : tie.Need-returns-3
 unfolding sizesAgree
@@ -106,23 +55,23 @@ pub sizes-agree-spec : {M : Type 1} → statement M
 sizes-agree-spec =
     tie.close
     (tie.spec
-    has-bit-requires
+    (λ c κs. search needs)
     returns
-    has-bit-requires-2
-    both-requires
+    (λ c κs. search needs)
+    (λ c κs. search needs)
     returns-2
-    sentence-requires
-    sentence-requires-2
-    sentence-requires-3
-    sentence-requires-4
-    add-up-requires
-    sentence-requires-5
-    both-requires-2
-    sentence-requires-6
-    both-requires-3
-    both-requires-4
-    sentence-requires-7
-    sentence-requires-8
-    both-requires-5
-    sentence-requires-9
+    (λ c κs. search needs)
+    (λ c κs. search needs)
+    (λ c κs. search needs)
+    (λ c κs. search needs)
+    (λ c κs. search needs)
+    (λ c κs. search needs)
+    (λ c κs. search needs)
+    (λ c κs. search needs)
+    (λ c κs. search needs)
+    (λ c κs. search needs)
+    (λ c κs. search needs)
+    (λ c κs. search needs)
+    (λ c κs. search needs)
+    (λ c κs. search needs)
     returns-3)

@@ -9,12 +9,9 @@ returns : tie.Need-returns
 unfolding flag truth boolAnd
 returns c = rw (eq-eqb _ 0 (c .if1 .taken))
 
-flag-requires : tie.Need-flag-requires
-flag-requires c κs = search needs
-
 returns-2 : tie.Need-returns-2
 unfolding truth boolAnd
 returns-2 c = rw (ne-eqb (c .before .before .args .a) 0 (c .before .if1 .left)) (c .flag .ensures)
 
 pub and-spec : {M : Type 1} → statement M
-and-spec = tie.close (tie.spec returns flag-requires returns-2)
+and-spec = tie.close (tie.spec returns (λ c κs. search needs) returns-2)

@@ -5,9 +5,6 @@ use Rattle.integer.specs.Operations.{flag, truth, boolOr}
 use Rattle.integer.proofs.boolean.or.Statement.{statement}
 use Rattle.integer.proofs.boolean.or.Tie as tie
 
-flag-requires : tie.Need-flag-requires
-flag-requires c κs = search needs
-
 returns : tie.Need-returns
 unfolding truth boolOr
 returns c = rw (eq-eqb (c .before .before .args .a) 0 (c .before .if1 .taken)) (c .flag .ensures)
@@ -17,4 +14,4 @@ unfolding flag truth boolOr
 returns-2 c = rw (ne-eqb _ 0 (c .if1 .left))
 
 pub or-spec : {M : Type 1} → statement M
-or-spec = tie.close (tie.spec flag-requires returns returns-2)
+or-spec = tie.close (tie.spec (λ c κs. search needs) returns returns-2)

@@ -9,17 +9,11 @@ use Rattle.integer.specs.Operations.{intSub}
 use Rattle.integer.proofs.signed.borrow.Statement.{statement}
 use Rattle.integer.proofs.signed.borrow.Tie as tie
 
-sub-requires : tie.Need-sub-requires
-sub-requires c κs = search needs
-
 is-negative-requires : tie.Need-is-negative-requires
 unfolding intSub
 is-negative-requires c κs =
     let less : c .sub .result < 256 ^ c .before .args .size = rw (c .sub .ensures) (wrap-lt _ _) in
     search needs
-
-is-negative-requires-2 : tie.Need-is-negative-requires-2
-is-negative-requires-2 c κs = search needs
 
 returns : tie.Need-returns
 unfolding intSub
@@ -27,9 +21,6 @@ returns c =
     let s = c .before .before .before .before in
     same-sign _ _ _ _ (borrow-by-signs _ _ _ (s .pre .0) (s .pre .2) (s .pre .3) _ (c .before .before .before .sub .ensures))
     (sym (ap₂ Bool·beq (c .before .before .is-negative .ensures) (c .before .is-negative2 .ensures)) ∙ c .if1 .taken)
-
-is-negative-requires-3 : tie.Need-is-negative-requires-3
-is-negative-requires-3 c κs = search needs
 
 returns-2 : tie.Need-returns-2
 unfolding intSub
@@ -44,9 +35,9 @@ pub borrow-spec : {M : Type 1} → statement M
 borrow-spec =
     tie.close
     (tie.spec
-    sub-requires
+    (λ c κs. search needs)
     is-negative-requires
-    is-negative-requires-2
+    (λ c κs. search needs)
     returns
-    is-negative-requires-3
+    (λ c κs. search needs)
     returns-2)

@@ -10,17 +10,11 @@ use Rattle.integer.specs.Operations.{intAdd}
 use Rattle.integer.proofs.signed.carry.Statement.{statement}
 use Rattle.integer.proofs.signed.carry.Tie as tie
 
-add-requires : tie.Need-add-requires
-add-requires c κs = search needs
-
 is-negative-requires : tie.Need-is-negative-requires
 unfolding intAdd
 is-negative-requires c κs =
     let less : c .add .result < 256 ^ c .before .args .size = rw (c .add .ensures) (mod-lt _ (size-pos _)) in
     search needs
-
-is-negative-requires-2 : tie.Need-is-negative-requires-2
-is-negative-requires-2 c κs = search needs
 
 returns : tie.Need-returns
 unfolding intAdd
@@ -28,9 +22,6 @@ returns c =
     let s = c .before .before .before .before in
     same-sign _ _ _ _ (carry-by-signs _ _ _ (s .pre .0) (s .pre .2) (s .pre .3) _ (c .before .before .before .add .ensures))
     (sym (ap₂ Bool·beq (c .before .before .is-negative .ensures) (c .before .is-negative2 .ensures)) ∙ c .if1 .taken)
-
-is-negative-requires-3 : tie.Need-is-negative-requires-3
-is-negative-requires-3 c κs = search needs
 
 returns-2 : tie.Need-returns-2
 unfolding intAdd
@@ -45,9 +36,9 @@ pub carry-spec : {M : Type 1} → statement M
 carry-spec =
     tie.close
     (tie.spec
-    add-requires
+    (λ c κs. search needs)
     is-negative-requires
-    is-negative-requires-2
+    (λ c κs. search needs)
     returns
-    is-negative-requires-3
+    (λ c κs. search needs)
     returns-2)

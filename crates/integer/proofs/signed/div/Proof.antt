@@ -5,12 +5,6 @@ use Rattle.integer.proofs.Division.{divides, sdiv-is, sdiv-least}
 use Rattle.integer.proofs.signed.div.Statement.{statement}
 use Rattle.integer.proofs.signed.div.Tie as tie
 
-value-of-requires : tie.Need-value-of-requires
-value-of-requires c κs = search needs
-
-value-of-requires-2 : tie.Need-value-of-requires-2
-value-of-requires-2 c κs = search needs
-
 returns : tie.Need-returns
 returns c = sdiv-least _ _ _ (c .before .before .before .value-of .result) (c .before .before .value-of2 .result) (record { sfits = c .before .before .before .value-of .ok }) (record { sfits = c .before .before .value-of2 .ok }) (c .before .before .before .value-of .ensures) (c .before .before .value-of2 .ensures) (c .before .before .before .before .pre .1) (c .before .before .before .before .pre .2) (c .before .if1 .taken) (c .if2 .taken)
 
@@ -19,13 +13,10 @@ div-wrapped c =
     divides _ _ _ (c .before .before .value-of .result) (c .before .value-of2 .result) (record { sfits = c .before .before .value-of .ok }) (record { sfits = c .before .value-of2 .ok }) (c .before .before .value-of .ensures) (c .before .value-of2 .ensures) (c .before .before .before .pre .3) (c .before .before .before .pre .4)
     (⊎-elim (λ w. λ x y. w .1 .left y) (λ w. λ x y. w .left x) (c .if1 .came))
 
-wrapped-requires : tie.Need-wrapped-requires
-wrapped-requires c κs = search needs
-
 returns-2 : tie.Need-returns-2
 returns-2 c = sdiv-is _ _ _ (c .before .before .before .value-of .result) (c .before .before .value-of2 .result) (record { sfits = c .before .before .before .value-of .ok }) (record { sfits = c .before .before .value-of2 .ok }) (c .before .before .before .value-of .ensures) (c .before .before .value-of2 .ensures) _ (div-wrapped (c .before) .1) (c .wrapped .ensures)
 
 pub div-spec : {M : Type 1} → statement M
 div-spec =
     tie.close
-    (tie.spec value-of-requires value-of-requires-2 returns div-wrapped wrapped-requires returns-2)
+    (tie.spec (λ c κs. search needs) (λ c κs. search needs) returns div-wrapped (λ c κs. search needs) returns-2)

@@ -13,21 +13,6 @@ use Rattle.integer.specs.Operations.{intSright}
 use Rattle.integer.proofs.signed.right.Statement.{statement}
 use Rattle.integer.proofs.signed.right.Tie as tie
 
-value-of-requires : tie.Need-value-of-requires
-value-of-requires c κs = search needs
-
-mul-if1 : tie.Need-mul-if1
-mul-if1 c = search needs
-
-cast-wrapped : tie.Need-cast-wrapped
-cast-wrapped c = search needs
-
-shr-wrapped : tie.Need-shr-wrapped
-shr-wrapped c = search needs
-
-wrapped-requires : tie.Need-wrapped-requires
-wrapped-requires c κs = search needs
-
 returns : tie.Need-returns
 unfolding intSright
 returns c =
@@ -35,9 +20,6 @@ returns c =
     let f : SFits w64 (z .result) = record { sfits = z .ok } in
     rw (lt-ltb _ _ (c .before .if1 .taken))
     (written _ _ _ _ (shift-fits (z .result) _ f) (ap (λ (k : ℤ). shrZ k (2 ^ c .before .before .before .args .b)) (toZ-ofZ w64 (z .result) f ∙ z .ensures)) (c .wrapped .ensures))
-
-largest-requires : tie.Need-largest-requires
-largest-requires c κs = search needs
 
 returns-2 : tie.Need-returns-2
 unfolding intSright
@@ -57,12 +39,12 @@ pub right-spec : {M : Type 1} → statement M
 right-spec =
     tie.close
     (tie.spec
-    value-of-requires
-    mul-if1
-    cast-wrapped
-    shr-wrapped
-    wrapped-requires
+    (λ c κs. search needs)
+    (λ c. search needs)
+    (λ c. search needs)
+    (λ c. search needs)
+    (λ c κs. search needs)
     returns
-    largest-requires
+    (λ c κs. search needs)
     returns-2
     returns-3)

@@ -4,18 +4,6 @@ use Rattle.integer.proofs.TwosComplement.{value-low, value-high, high-f
 use Rattle.integer.proofs.signed.value_of.Statement.{statement}
 use Rattle.integer.proofs.signed.value_of.Tie as tie
 
-largest-requires : tie.Need-largest-requires
-largest-requires c κs = search needs
-
-cast-result : tie.Need-cast-result
-cast-result c = search needs
-
-sub-result : tie.Need-sub-result
-sub-result c = search needs
-
-cast-result-2 : tie.Need-cast-result-2
-cast-result-2 c = search needs
-
 sub-result-2 : tie.Need-sub-result-2
 sub-result-2 c = high-fits _ _ _ (c .before .before .pre .1) (c .before .before .pre .2) (c .before .largest .ensures) (c .if1 .left)
 
@@ -28,4 +16,4 @@ returns-2 c = value-high _ _ _ (c .before .before .pre .1) (c .before .before .p
 pub value-of-spec : {M : Type 1} → statement M
 value-of-spec =
     tie.close
-    (tie.spec largest-requires cast-result sub-result cast-result-2 sub-result-2 returns returns-2)
+    (tie.spec (λ c κs. search needs) (λ c. search needs) (λ c. search needs) (λ c. search needs) sub-result-2 returns returns-2)

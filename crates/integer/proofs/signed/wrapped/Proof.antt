@@ -4,26 +4,17 @@ use Rattle.integer.proofs.TwosComplement.{cut-le, flip-fits, flip-cast,
 use Rattle.integer.proofs.signed.wrapped.Statement.{statement}
 use Rattle.integer.proofs.signed.wrapped.Tie as tie
 
-largest-requires : tie.Need-largest-requires
-largest-requires c κs = search needs
-
 sub-low : tie.Need-sub-low
 sub-low c = flip-fits _ (c .before .before .fits .z) (c .before .if1 .taken)
 
 cast-low : tie.Need-cast-low
 cast-low c = flip-cast _ (c .before .before .fits .z) (c .before .if1 .taken)
 
-low-requires : tie.Need-low-requires
-low-requires c κs = search needs
-
 sub-result : tie.Need-sub-result
 sub-result c = cut-le _ _ _ _ (c .low .ensures) (c .before .largest .ensures)
 
 cast-low-2 : tie.Need-cast-low-2
 cast-low-2 c = pos-cast _ (c .before .fits .z) (c .if1 .left)
-
-low-requires-2 : tie.Need-low-requires-2
-low-requires-2 c κs = search needs
 
 returns : tie.Need-returns
 returns c = wrap-neg _ (c .before .before .before .fits .z) (c .before .before .if1 .taken) _ _ _ (c .before .largest .ensures) (c .low .ensures)
@@ -35,12 +26,12 @@ pub wrapped-spec : {M : Type 1} → statement M
 wrapped-spec =
     tie.close
     (tie.spec
-    largest-requires
+    (λ c κs. search needs)
     sub-low
     cast-low
-    low-requires
+    (λ c κs. search needs)
     sub-result
     cast-low-2
-    low-requires-2
+    (λ c κs. search needs)
     returns
     returns-2)

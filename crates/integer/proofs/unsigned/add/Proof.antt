@@ -7,12 +7,6 @@ use Rattle.integer.specs.Operations.{intAdd}
 use Rattle.integer.proofs.unsigned.add.Statement.{statement}
 use Rattle.integer.proofs.unsigned.add.Tie as tie
 
-wrapping-add-u64-requires : tie.Need-wrapping-add-u64-requires
-wrapping-add-u64-requires c κs = search needs
-
-low-requires : tie.Need-low-requires
-low-requires c κs = search needs
-
 returns : tie.Need-returns
 unfolding intAdd
 returns c =
@@ -20,4 +14,4 @@ returns c =
     c .low .ensures ∙ rw (c .before .wrapping-add-u64 .ensures) (low-part (a .a + a .b) (a .size) (c .before .before .pre))
 
 pub add-spec : {M : Type 1} → statement M
-add-spec = tie.close (tie.spec wrapping-add-u64-requires low-requires returns)
+add-spec = tie.close (tie.spec (λ c κs. search needs) (λ c κs. search needs) returns)

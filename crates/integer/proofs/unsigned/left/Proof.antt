@@ -7,22 +7,13 @@ use Rattle.integer.specs.Operations.{intLeft}
 use Rattle.integer.proofs.unsigned.left.Statement.{statement}
 use Rattle.integer.proofs.unsigned.left.Tie as tie
 
-mul-if1 : tie.Need-mul-if1
-mul-if1 c = search needs
-
 returns : tie.Need-returns
 unfolding intLeft
 returns c = rw (le-ltb _ _ (c .if1 .taken))
-
-shl-low : tie.Need-shl-low
-shl-low c = search needs
-
-low-requires : tie.Need-low-requires
-low-requires c κs = search needs
 
 returns-2 : tie.Need-returns-2
 unfolding intLeft
 returns-2 c = rw (lt-ltb _ _ (c .before .if1 .left)) (c .low .ensures ∙ low-part _ _ (c .before .before .pre))
 
 pub left-spec : {M : Type 1} → statement M
-left-spec = tie.close (tie.spec mul-if1 returns shl-low low-requires returns-2)
+left-spec = tie.close (tie.spec (λ c. search needs) returns (λ c. search needs) (λ c κs. search needs) returns-2)

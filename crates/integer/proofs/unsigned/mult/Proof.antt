@@ -7,12 +7,6 @@ use Rattle.integer.specs.Operations.{intMult}
 use Rattle.integer.proofs.unsigned.mult.Statement.{statement}
 use Rattle.integer.proofs.unsigned.mult.Tie as tie
 
-wrapping-mul-requires : tie.Need-wrapping-mul-requires
-wrapping-mul-requires c κs = search needs
-
-low-requires : tie.Need-low-requires
-low-requires c κs = search needs
-
 returns : tie.Need-returns
 unfolding intMult
 returns c =
@@ -20,4 +14,4 @@ returns c =
     c .low .ensures ∙ rw (c .before .wrapping-mul .ensures) (low-part (a .a * a .b) (a .size) (c .before .before .pre))
 
 pub mult-spec : {M : Type 1} → statement M
-mult-spec = tie.close (tie.spec wrapping-mul-requires low-requires returns)
+mult-spec = tie.close (tie.spec (λ c κs. search needs) (λ c κs. search needs) returns)

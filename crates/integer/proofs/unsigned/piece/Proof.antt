@@ -6,12 +6,6 @@ use Rattle.integer.specs.Operations.{piece}
 use Rattle.integer.proofs.unsigned.piece.Statement.{statement}
 use Rattle.integer.proofs.unsigned.piece.Tie as tie
 
-mul-result : tie.Need-mul-result
-mul-result c = search needs
-
-shl-result : tie.Need-shl-result
-shl-result c = search needs
-
 add-result : tie.Need-add-result
 add-result c = record { fits = rw (shifted-bytes (c .args .a) (c .args .size1) (omega arith)) (c .pre .1) }
 
@@ -20,4 +14,4 @@ unfolding piece
 returns c = rw (shifted-bytes (c .args .a) (c .args .size1) (omega arith))
 
 pub piece-spec : {M : Type 1} → statement M
-piece-spec = tie.close (tie.spec mul-result shl-result add-result returns)
+piece-spec = tie.close (tie.spec (λ c. search needs) (λ c. search needs) add-result returns)

@@ -6,12 +6,6 @@ use Rattle.integer.proofs.Whole.{sub-is}
 use Rattle.integer.proofs.unsigned.sub.Statement.{statement}
 use Rattle.integer.proofs.unsigned.sub.Tie as tie
 
-wrapping-sub-u64-requires : tie.Need-wrapping-sub-u64-requires
-wrapping-sub-u64-requires c κs = search needs
-
-low-requires : tie.Need-low-requires
-low-requires c κs = search needs
-
 returns : tie.Need-returns
 returns c =
     let s = c .before .before in
@@ -19,4 +13,4 @@ returns c =
     ∙ sub-is (s .args .size) (s .args .a) (s .args .b) _ (s .pre) (s .fits .a .fits) (s .fits .b .fits) (omega (arith, c .before .wrapping-sub-u64 .ok)) (c .before .wrapping-sub-u64 .ensures)
 
 pub sub-spec : {M : Type 1} → statement M
-sub-spec = tie.close (tie.spec wrapping-sub-u64-requires low-requires returns)
+sub-spec = tie.close (tie.spec (λ c κs. search needs) (λ c κs. search needs) returns)

@@ -10,18 +10,9 @@ use Rattle.integer.proofs.unsigned.subpiece.Tie as tie
 returns : tie.Need-returns
 returns c = sym (dropped-all _ _ _ (c .before .fits .a .fits) (c .if1 .taken))
 
-mul-low : tie.Need-mul-low
-mul-low c = search needs
-
-shr-low : tie.Need-shr-low
-shr-low c = search needs
-
-low-requires : tie.Need-low-requires
-low-requires c κs = search needs
-
 returns-2 : tie.Need-returns-2
 unfolding subpiece
 returns-2 c = c .low .ensures ∙ rw (pow-bits (c .before .before .args .b))
 
 pub subpiece-spec : {M : Type 1} → statement M
-subpiece-spec = tie.close (tie.spec returns mul-low shr-low low-requires returns-2)
+subpiece-spec = tie.close (tie.spec returns (λ c. search needs) (λ c. search needs) (λ c κs. search needs) returns-2)

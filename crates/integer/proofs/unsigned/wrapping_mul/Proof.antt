@@ -21,21 +21,12 @@ mul-wrapping-add-u64-2 c =
     let g : a .b < 2 ^ 64 = c .fits .b .fits in
     record { fits = product-fits (a .a % 4294967296) (a .b / 4294967296) (omega arith) (omega arith) }
 
-wrapping-add-u64-requires : tie.Need-wrapping-add-u64-requires
-wrapping-add-u64-requires c κs = search needs
-
-mul-wrapping-add-u64-3 : tie.Need-mul-wrapping-add-u64-3
-mul-wrapping-add-u64-3 c = search needs
-
 mul-wrapping-add-u64-4 : tie.Need-mul-wrapping-add-u64-4
 mul-wrapping-add-u64-4 c =
     let a = c .before .args in
     let f : a .a < 2 ^ 64 = c .before .fits .a .fits in
     let g : a .b < 2 ^ 64 = c .before .fits .b .fits in
     record { fits = product-fits (a .a % 4294967296) (a .b % 4294967296) (omega arith) (omega arith) }
-
-wrapping-add-u64-requires-2 : tie.Need-wrapping-add-u64-requires-2
-wrapping-add-u64-requires-2 c κs = search needs
 
 returns : tie.Need-returns
 returns c =
@@ -49,8 +40,8 @@ wrapping-mul-spec =
     (tie.spec
     mul-wrapping-add-u64
     mul-wrapping-add-u64-2
-    wrapping-add-u64-requires
-    mul-wrapping-add-u64-3
+    (λ c κs. search needs)
+    (λ c. search needs)
     mul-wrapping-add-u64-4
-    wrapping-add-u64-requires-2
+    (λ c κs. search needs)
     returns)

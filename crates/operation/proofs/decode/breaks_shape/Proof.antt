@@ -6,19 +6,10 @@ use Rattle.operation.proofs.Decoding.{shape-broken}
 use Rattle.operation.proofs.decode.breaks_shape.Statement.{statement}
 use Rattle.operation.proofs.decode.breaks_shape.Tie as tie
 
-either-requires : tie.Need-either-requires
-either-requires c κs = search needs
-
 returns : tie.Need-returns
 returns c =
     let a = c .before .before .args in
     c .either .ensures ∙ (rw (eq-eqb (a .descriptor) 0 (c .before .if1 .taken)) at (shape-broken (a .wanted) (a .descriptor) (a .offset)))
-
-describes-varnode-requires : tie.Need-describes-varnode-requires
-describes-varnode-requires c κs = search needs
-
-either-requires-2 : tie.Need-either-requires-2
-either-requires-2 c κs = search needs
 
 returns-2 : tie.Need-returns-2
 returns-2 c =
@@ -32,8 +23,8 @@ pub breaks-shape-spec : {M : Type 1} → statement M
 breaks-shape-spec =
     tie.close
     (tie.spec
-    either-requires
+    (λ c κs. search needs)
     returns
-    describes-varnode-requires
-    either-requires-2
+    (λ c κs. search needs)
+    (λ c κs. search needs)
     returns-2)

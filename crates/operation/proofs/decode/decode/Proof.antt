@@ -7,15 +7,9 @@ use Rattle.operation.proofs.Decoding.{numbered}
 use Rattle.operation.proofs.decode.decode.Statement.{statement}
 use Rattle.operation.proofs.decode.decode.Tie as tie
 
-breaks-shape-requires : tie.Need-breaks-shape-requires
-breaks-shape-requires c κs = search needs
-
 returns : tie.Need-returns
 unfolding decoded
 returns c = numbered _ _ _ (rw (sym (c .before .breaks-shape .ensures) ∙ c .if1 .taken) refl)
-
-described-by-requires : tie.Need-described-by-requires
-described-by-requires c κs = search needs
 
 returns-2 : tie.Need-returns-2
 unfolding decoded
@@ -24,4 +18,4 @@ returns-2 c =
     numbered _ _ _ (rw (sym (kept .before .breaks-shape .ensures) ∙ kept .if1 .left) (ap Accepted (c .described-by .ensures)))
 
 pub decode-spec : {M : Type 1} → statement M
-decode-spec = tie.close (tie.spec breaks-shape-requires returns described-by-requires returns-2)
+decode-spec = tie.close (tie.spec (λ c κs. search needs) returns (λ c κs. search needs) returns-2)

@@ -9,27 +9,6 @@ use Rattle.operation.proofs.Decoding.{same-decoding}
 use Rattle.operation.proofs.decode.decode_at.Statement.{statement}
 use Rattle.operation.proofs.decode.decode_at.Tie as tie
 
-opcode-at-requires : tie.Need-opcode-at-requires
-opcode-at-requires c κs = search needs
-
-has-place-requires : tie.Need-has-place-requires
-has-place-requires c κs = search needs
-
-add-head-byte : tie.Need-add-head-byte
-add-head-byte c = search needs
-
-head-byte-requires : tie.Need-head-byte-requires
-head-byte-requires c κs = search needs
-
-add-word-at : tie.Need-add-word-at
-add-word-at c = search needs
-
-word-at-requires : tie.Need-word-at-requires
-word-at-requires c κs = search needs
-
-decode-requires : tie.Need-decode-requires
-decode-requires c κs = search needs
-
 returns : tie.Need-returns
 unfolding decodedAt descriptorAt offsetAt
 returns c =
@@ -43,11 +22,11 @@ pub decode-at-spec : {M : Type 1} → statement M
 decode-at-spec =
     tie.close
     (tie.spec
-    opcode-at-requires
-    has-place-requires
-    add-head-byte
-    head-byte-requires
-    add-word-at
-    word-at-requires
-    decode-requires
+    (λ c κs. search needs)
+    (λ c κs. search needs)
+    (λ c. search needs)
+    (λ c κs. search needs)
+    (λ c. search needs)
+    (λ c κs. search needs)
+    (λ c κs. search needs)
     returns)

@@ -7,15 +7,9 @@ use Rattle.word.specs.Sum.{digit}
 use Rattle.operation.proofs.layout.head_byte.Statement.{statement}
 use Rattle.operation.proofs.layout.head_byte.Tie as tie
 
-word-at-requires : tie.Need-word-at-requires
-word-at-requires c κs = search needs
-
-byte-requires : tie.Need-byte-requires
-byte-requires c κs = search needs
-
 returns : tie.Need-returns
 unfolding headByte
 returns c = c .byte .ensures ∙ ap (λ (w : ℕ). digit 256 w (c .before .before .before .args .k)) (c .before .word-at .ensures)
 
 pub head-byte-spec : {M : Type 1} → statement M
-head-byte-spec = tie.close (tie.spec word-at-requires byte-requires returns)
+head-byte-spec = tie.close (tie.spec (λ c κs. search needs) (λ c κs. search needs) returns)

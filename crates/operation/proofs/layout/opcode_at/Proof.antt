@@ -4,12 +4,9 @@ use Rattle.operation.specs.Layout.{opcodeAt}
 use Rattle.operation.proofs.layout.opcode_at.Statement.{statement}
 use Rattle.operation.proofs.layout.opcode_at.Tie as tie
 
-head-byte-requires : tie.Need-head-byte-requires
-head-byte-requires c κs = search needs
-
 returns : tie.Need-returns
 unfolding opcodeAt
 returns c = c .head-byte .ensures
 
 pub opcode-at-spec : {M : Type 1} → statement M
-opcode-at-spec = tie.close (tie.spec head-byte-requires returns)
+opcode-at-spec = tie.close (tie.spec (λ c κs. search needs) returns)

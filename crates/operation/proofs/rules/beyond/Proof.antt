@@ -11,18 +11,9 @@ returns : tie.Need-returns
 unfolding beyond
 returns c = rw (eq-eqb _ 0 (c .if1 .taken))
 
-holds-requires : tie.Need-holds-requires
-holds-requires c κs = search needs
-
 returns-2 : tie.Need-returns-2
 unfolding beyond
 returns-2 c = rw (ne-eqb _ 0 (c .before .before .if1 .left), eq-eqb _ 1 (c .before .if2 .taken)) (ap not (c .holds .ensures))
-
-length-of-requires : tie.Need-length-of-requires
-length-of-requires c κs = search needs
-
-within-requires : tie.Need-within-requires
-within-requires c κs = search needs
 
 returns-3 : tie.Need-returns-3
 unfolding beyond
@@ -35,8 +26,8 @@ beyond-spec =
     tie.close
     (tie.spec
     returns
-    holds-requires
+    (λ c κs. search needs)
     returns-2
-    length-of-requires
-    within-requires
+    (λ c κs. search needs)
+    (λ c κs. search needs)
     returns-3)

@@ -5,18 +5,6 @@ use Rattle.operation.specs.Rules.{breaksHead}
 use Rattle.operation.proofs.rules.breaks_head.Statement.{statement}
 use Rattle.operation.proofs.rules.breaks_head.Tie as tie
 
-opcode-at-requires : tie.Need-opcode-at-requires
-opcode-at-requires c κs = search needs
-
-spare-at-requires : tie.Need-spare-at-requires
-spare-at-requires c κs = search needs
-
-both-requires : tie.Need-both-requires
-both-requires c κs = search needs
-
-either-requires : tie.Need-either-requires
-either-requires c κs = search needs
-
 returns : tie.Need-returns
 unfolding breaksHead
 returns c =
@@ -27,8 +15,8 @@ pub breaks-head-spec : {M : Type 1} → statement M
 breaks-head-spec =
     tie.close
     (tie.spec
-    opcode-at-requires
-    spare-at-requires
-    both-requires
-    either-requires
+    (λ c κs. search needs)
+    (λ c κs. search needs)
+    (λ c κs. search needs)
+    (λ c κs. search needs)
     returns)

@@ -6,20 +6,8 @@ use Rattle.operation.specs.Rules.{breaksPlace}
 use Rattle.operation.proofs.rules.breaks_place.Statement.{statement}
 use Rattle.operation.proofs.rules.breaks_place.Tie as tie
 
-breaks-place0-requires : tie.Need-breaks-place0-requires
-breaks-place0-requires c κs = search needs
-
 returns : tie.Need-returns
 returns c = c .breaks-place0 .ensures ∙ rw (c .before .if1 .taken) refl
-
-pick-test-requires : tie.Need-pick-test-requires
-pick-test-requires c κs = search needs
-
-pick-test-requires-2 : tie.Need-pick-test-requires-2
-pick-test-requires-2 c κs = search needs
-
-pick-test-requires-3 : tie.Need-pick-test-requires-3
-pick-test-requires-3 c κs = search needs
 
 returns-2 : tie.Need-returns-2
 unfolding breaksPlace
@@ -32,9 +20,9 @@ pub breaks-place-spec : {M : Type 1} → statement M
 breaks-place-spec =
     tie.close
     (tie.spec
-    breaks-place0-requires
+    (λ c κs. search needs)
     returns
-    pick-test-requires
-    pick-test-requires-2
-    pick-test-requires-3
+    (λ c κs. search needs)
+    (λ c κs. search needs)
+    (λ c κs. search needs)
     returns-2)

@@ -5,24 +5,9 @@ use Rattle.operation.specs.Rules.{breaksPlace}
 use Rattle.operation.proofs.rules.breaks_place0.Statement.{statement}
 use Rattle.operation.proofs.rules.breaks_place0.Tie as tie
 
-accesses-requires : tie.Need-accesses-requires
-accesses-requires c κs = search needs
-
-names-space-requires : tie.Need-names-space-requires
-names-space-requires c κs = search needs
-
 returns : tie.Need-returns
 unfolding breaksPlace
 returns c = rw (sym (c .before .before .accesses .ensures) ∙ c .before .if1 .taken, c .names-space .ensures) refl
-
-branches-requires : tie.Need-branches-requires
-branches-requires c κs = search needs
-
-is-destination-requires : tie.Need-is-destination-requires
-is-destination-requires c κs = search needs
-
-pick-test-requires : tie.Need-pick-test-requires
-pick-test-requires c κs = search needs
 
 returns-2 : tie.Need-returns-2
 unfolding breaksPlace
@@ -35,10 +20,10 @@ pub breaks-place0-spec : {M : Type 1} → statement M
 breaks-place0-spec =
     tie.close
     (tie.spec
-    accesses-requires
-    names-space-requires
+    (λ c κs. search needs)
+    (λ c κs. search needs)
     returns
-    branches-requires
-    is-destination-requires
-    pick-test-requires
+    (λ c κs. search needs)
+    (λ c κs. search needs)
+    (λ c κs. search needs)
     returns-2)

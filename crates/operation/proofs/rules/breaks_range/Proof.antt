@@ -5,20 +5,11 @@ use Rattle.operation.specs.Rules.{breaksRange}
 use Rattle.operation.proofs.rules.breaks_range.Statement.{statement}
 use Rattle.operation.proofs.rules.breaks_range.Tie as tie
 
-branches-requires : tie.Need-branches-requires
-branches-requires c κs = search needs
-
-both-requires : tie.Need-both-requires
-both-requires c κs = search needs
-
 returns : tie.Need-returns
 unfolding breaksRange
 returns c =
     let exempt = rw (c .before .before .branches .ensures) at (c .before .both .ensures) in
     rw (sym exempt ∙ c .if1 .taken) refl
-
-beyond-requires : tie.Need-beyond-requires
-beyond-requires c κs = search needs
 
 returns-2 : tie.Need-returns-2
 unfolding breaksRange
@@ -28,4 +19,4 @@ returns-2 c =
     rw (sym exempt ∙ c .before .if1 .left) (c .beyond .ensures)
 
 pub breaks-range-spec : {M : Type 1} → statement M
-breaks-range-spec = tie.close (tie.spec branches-requires both-requires returns beyond-requires returns-2)
+breaks-range-spec = tie.close (tie.spec (λ c κs. search needs) (λ c κs. search needs) returns (λ c κs. search needs) returns-2)

@@ -6,12 +6,9 @@ use Rattle.operation.specs.Rules.{breaksSize}
 use Rattle.operation.proofs.rules.breaks_size.Statement.{statement}
 use Rattle.operation.proofs.rules.breaks_size.Tie as tie
 
-sizes-agree-requires : tie.Need-sizes-agree-requires
-sizes-agree-requires c κs = search needs
-
 returns : tie.Need-returns
 unfolding breaksSize
 returns c = ap not (c .sizes-agree .ensures)
 
 pub breaks-size-spec : {M : Type 1} → statement M
-breaks-size-spec = tie.close (tie.spec sizes-agree-requires returns)
+breaks-size-spec = tie.close (tie.spec (λ c κs. search needs) returns)

@@ -5,15 +5,6 @@ use Rattle.operation.specs.Rules.{breaksTarget}
 use Rattle.operation.proofs.rules.breaks_target.Statement.{statement}
 use Rattle.operation.proofs.rules.breaks_target.Tie as tie
 
-branches-requires : tie.Need-branches-requires
-branches-requires c κs = search needs
-
-both-requires : tie.Need-both-requires
-both-requires c κs = search needs
-
-target-outside-requires : tie.Need-target-outside-requires
-target-outside-requires c κs = search needs
-
 returns : tie.Need-returns
 unfolding breaksTarget
 returns c =
@@ -32,8 +23,8 @@ pub breaks-target-spec : {M : Type 1} → statement M
 breaks-target-spec =
     tie.close
     (tie.spec
-    branches-requires
-    both-requires
-    target-outside-requires
+    (λ c κs. search needs)
+    (λ c κs. search needs)
+    (λ c κs. search needs)
     returns
     returns-2)

@@ -4,12 +4,9 @@ use Rattle.operation.specs.Rules.{isDestination}
 use Rattle.operation.proofs.rules.is_destination.Statement.{statement}
 use Rattle.operation.proofs.rules.is_destination.Tie as tie
 
-either-requires : tie.Need-either-requires
-either-requires c κs = search needs
-
 returns : tie.Need-returns
 unfolding isDestination
 returns c = c .either .ensures
 
 pub is-destination-spec : {M : Type 1} → statement M
-is-destination-spec = tie.close (tie.spec either-requires returns)
+is-destination-spec = tie.close (tie.spec (λ c κs. search needs) returns)

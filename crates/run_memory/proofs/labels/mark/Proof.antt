@@ -9,9 +9,6 @@ use Rattle.run_memory.proofs.Secrets.{same-labels}
 use Rattle.run_memory.proofs.labels.mark.Statement.{statement}
 use Rattle.run_memory.proofs.labels.mark.Tie as tie
 
-eight-labels-requires : tie.Need-eight-labels-requires
-eight-labels-requires c κs = search needs
-
 scatter-requires : tie.Need-scatter-requires
 unfolding spaceOf
 scatter-requires c κs =
@@ -33,9 +30,6 @@ scatter-requires-3 c κs =
     let p = entry .before .before .pre in
     (p .size, placed-in _ _ 4 (c .before .match .keys3) (lit≤ tt) p)
 
-same-length : tie.Need-same-length
-same-length c = search needs
-
 returns : tie.Need-returns
 unfolding spaceOf withSpace
 returns c =
@@ -44,9 +38,6 @@ returns c =
     written-in _ _ 2 (chosen .match .keys1) _ _
     (c .before .before .scatter .ensures ∙ ap (sets _ _) (same-labels _ _ _ (given .before .pre .size) (chosen .before .eight-labels .ensures)))
 
-same-length-2 : tie.Need-same-length-2
-same-length-2 c = search needs
-
 returns-2 : tie.Need-returns-2
 unfolding spaceOf withSpace
 returns-2 c =
@@ -54,9 +45,6 @@ returns-2 c =
     let given = chosen .before .before .before .before in
     written-in _ _ 3 (chosen .match .keys2) _ _
     (c .before .before .scatter2 .ensures ∙ ap (sets _ _) (same-labels _ _ _ (given .before .pre .size) (chosen .before .eight-labels .ensures)))
-
-same-length-3 : tie.Need-same-length-3
-same-length-3 c = search needs
 
 returns-3 : tie.Need-returns-3
 unfolding spaceOf withSpace
@@ -75,14 +63,14 @@ pub mark-spec : {M : Type 1} → statement M
 mark-spec =
     tie.close
     (tie.spec
-    eight-labels-requires
+    (λ c κs. search needs)
     scatter-requires
     scatter-requires-2
     scatter-requires-3
-    same-length
+    (λ c. search needs)
     returns
-    same-length-2
+    (λ c. search needs)
     returns-2
-    same-length-3
+    (λ c. search needs)
     returns-3
     returns-4)

@@ -29,22 +29,13 @@ write-in-requires-3 c κs =
     let p = entry .before .before .pre in
     (p .size, placed-in _ _ 4 (c .before .match .keys3) (lit≤ tt) p)
 
-same-length : tie.Need-same-length
-same-length c = search needs
-
 returns : tie.Need-returns
 unfolding spaceOf withSpace bigEndian
 returns c = written-in _ _ 2 (c .before .before .before .before .match .keys1) _ _ (c .before .before .write-in .ensures)
 
-same-length-2 : tie.Need-same-length-2
-same-length-2 c = search needs
-
 returns-2 : tie.Need-returns-2
 unfolding spaceOf withSpace bigEndian
 returns-2 c = written-in _ _ 3 (c .before .before .before .before .match .keys2) _ _ (c .before .before .write-in2 .ensures)
-
-same-length-3 : tie.Need-same-length-3
-same-length-3 c = search needs
 
 returns-3 : tie.Need-returns-3
 unfolding spaceOf withSpace bigEndian
@@ -62,10 +53,10 @@ write-spec =
     write-in-requires
     write-in-requires-2
     write-in-requires-3
-    same-length
+    (λ c. search needs)
     returns
-    same-length-2
+    (λ c. search needs)
     returns-2
-    same-length-3
+    (λ c. search needs)
     returns-3
     returns-4)

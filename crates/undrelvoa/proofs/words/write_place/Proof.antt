@@ -6,23 +6,8 @@ use Rattle.undrelvoa.proofs.Shown.{place-words}
 use Rattle.undrelvoa.proofs.words.write_place.Statement.{statement}
 use Rattle.undrelvoa.proofs.words.write_place.Tie as tie
 
-pick-requires : tie.Need-pick-requires
-pick-requires c κs = search needs
-
-slice-write-words : tie.Need-slice-write-words
-slice-write-words c = search needs
-
-pick-requires-2 : tie.Need-pick-requires-2
-pick-requires-2 c κs = search needs
-
 slice-write-words-2 : tie.Need-slice-write-words-2
 slice-write-words-2 c = simp length-set (omega arith)
-
-slice-write-words-3 : tie.Need-slice-write-words-3
-slice-write-words-3 c = search needs
-
-same-length : tie.Need-same-length
-same-length c = search needs
 
 returns : tie.Need-returns
 returns c =
@@ -33,10 +18,10 @@ pub write-place-spec : {M : Type 1} → statement M
 write-place-spec =
     tie.close
     (tie.spec
-    pick-requires
-    slice-write-words
-    pick-requires-2
+    (λ c κs. search needs)
+    (λ c. search needs)
+    (λ c κs. search needs)
     slice-write-words-2
-    slice-write-words-3
-    same-length
+    (λ c. search needs)
+    (λ c. search needs)
     returns)

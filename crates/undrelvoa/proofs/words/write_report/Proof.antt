@@ -7,9 +7,6 @@ use Rattle.undrelvoa.specs.Buffers.{reportWords}
 use Rattle.undrelvoa.proofs.words.write_report.Statement.{statement}
 use Rattle.undrelvoa.proofs.words.write_report.Tie as tie
 
-slice-write-words : tie.Need-slice-write-words
-slice-write-words c = search needs
-
 slice-write-words-2 : tie.Need-slice-write-words-2
 slice-write-words-2 c = simp length-set (omega arith)
 
@@ -19,12 +16,6 @@ slice-write-words-3 c = simp length-set (omega arith)
 slice-write-words-4 : tie.Need-slice-write-words-4
 slice-write-words-4 c = simp length-set (omega arith)
 
-slice-write-words-5 : tie.Need-slice-write-words-5
-slice-write-words-5 c = search needs
-
-same-length : tie.Need-same-length
-same-length c = search needs
-
 returns : tie.Need-returns
 unfolding reportWords
 returns c = refl
@@ -33,10 +24,10 @@ pub write-report-spec : {M : Type 1} → statement M
 write-report-spec =
     tie.close
     (tie.spec
-    slice-write-words
+    (λ c. search needs)
     slice-write-words-2
     slice-write-words-3
     slice-write-words-4
-    slice-write-words-5
-    same-length
+    (λ c. search needs)
+    (λ c. search needs)
     returns)

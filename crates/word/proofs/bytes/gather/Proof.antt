@@ -8,15 +8,6 @@ use Rattle.word.proofs.Laws.{below-eight}
 use Rattle.word.proofs.bytes.gather.Statement.{statement}
 use Rattle.word.proofs.bytes.gather.Tie as tie
 
-gather-walk-requires : tie.Need-gather-walk-requires
-gather-walk-requires c κs = search needs
-
-gather-walk-requires-2 : tie.Need-gather-walk-requires-2
-gather-walk-requires-2 c κs = search needs
-
-gather-walk-requires-3 : tie.Need-gather-walk-requires-3
-gather-walk-requires-3 c κs = search needs
-
 gather-walk-requires-4 : tie.Need-gather-walk-requires-4
 gather-walk-requires-4 c κs =
     let at-size = c .before in
@@ -53,9 +44,9 @@ pub gather-spec : {M : Type 1} → statement M
 gather-spec =
     tie.close
     (tie.spec
-    gather-walk-requires
-    gather-walk-requires-2
-    gather-walk-requires-3
+    (λ c κs. search needs)
+    (λ c κs. search needs)
+    (λ c κs. search needs)
     gather-walk-requires-4
     returns
     returns-2

@@ -22,17 +22,11 @@ abbrev μ-loop : tie.MeasureT-loop
 loop-holds : tie.Need-loop-holds Inv-loop μ-loop
 loop-holds c = let a = c .before .args in (omega arith, sym (gathered-none (a .big) (a .s .now) (a .at) (a .size)))
 
-weight-requires : tie.Need-weight-requires Inv-loop μ-loop
-weight-requires c κs = search needs
-
 add-wide : tie.Need-add-wide Inv-loop μ-loop
 add-wide c = omega arith
 
 shared-slice-read-wide : tie.Need-shared-slice-read-wide Inv-loop μ-loop
 shared-slice-read-wide c = omega arith
-
-wide-requires : tie.Need-wide-requires Inv-loop μ-loop
-wide-requires c κs = search needs
 
 mul-v : tie.Need-mul-v Inv-loop μ-loop
 mul-v c = omega arith
@@ -76,10 +70,10 @@ gather-walk-spec =
     Inv-loop
     μ-loop
     loop-holds
-    weight-requires
+    (λ c κs. search needs)
     add-wide
     shared-slice-read-wide
-    wide-requires
+    (λ c κs. search needs)
     mul-v
     shl-v
     add-i

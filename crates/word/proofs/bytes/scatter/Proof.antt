@@ -9,23 +9,11 @@ use Rattle.word.proofs.Laws.{below-eight}
 use Rattle.word.proofs.bytes.scatter.Statement.{statement}
 use Rattle.word.proofs.bytes.scatter.Tie as tie
 
-scatter-walk-requires : tie.Need-scatter-walk-requires
-scatter-walk-requires c κs = search needs
-
-scatter-walk-requires-2 : tie.Need-scatter-walk-requires-2
-scatter-walk-requires-2 c κs = search needs
-
-scatter-walk-requires-3 : tie.Need-scatter-walk-requires-3
-scatter-walk-requires-3 c κs = search needs
-
 scatter-walk-requires-4 : tie.Need-scatter-walk-requires-4
 scatter-walk-requires-4 c κs =
     let at-size = c .before .before in
     let entry = at-size .before .before .before in
     rw (below-eight (entry .args .size) (entry .pre .0) (at-size .if2 .left)) (entry .pre)
-
-same-length : tie.Need-same-length
-same-length c = search needs
 
 returns : tie.Need-returns
 returns c =
@@ -33,9 +21,6 @@ returns c =
     let a = at-walk .before .before .before .before .args in
     let e : 4 ≡ a .size = omega arith in
     at-walk .scatter-walk .ensures ∙ ap (λ (n : ℕ). sets (a .s .now) (a .at) (bytesOf (a .big) n (a .v))) e
-
-same-length-2 : tie.Need-same-length-2
-same-length-2 c = search needs
 
 returns-2 : tie.Need-returns-2
 returns-2 c =
@@ -45,9 +30,6 @@ returns-2 c =
     let e : 8 ≡ a .size = omega arith in
     at-walk .scatter-walk2 .ensures ∙ ap (λ (n : ℕ). sets (a .s .now) (a .at) (bytesOf (a .big) n (a .v))) e
 
-same-length-3 : tie.Need-same-length-3
-same-length-3 c = search needs
-
 returns-3 : tie.Need-returns-3
 returns-3 c =
     let at-walk = c .before .before in
@@ -55,9 +37,6 @@ returns-3 c =
     let a = at-size .before .before .before .args in
     let e : 1 ≡ a .size = omega arith in
     at-walk .scatter-walk3 .ensures ∙ ap (λ (n : ℕ). sets (a .s .now) (a .at) (bytesOf (a .big) n (a .v))) e
-
-same-length-4 : tie.Need-same-length-4
-same-length-4 c = search needs
 
 returns-4 : tie.Need-returns-4
 returns-4 c =
@@ -72,15 +51,15 @@ pub scatter-spec : {M : Type 1} → statement M
 scatter-spec =
     tie.close
     (tie.spec
-    scatter-walk-requires
-    scatter-walk-requires-2
-    scatter-walk-requires-3
+    (λ c κs. search needs)
+    (λ c κs. search needs)
+    (λ c κs. search needs)
     scatter-walk-requires-4
-    same-length
+    (λ c. search needs)
     returns
-    same-length-2
+    (λ c. search needs)
     returns-2
-    same-length-3
+    (λ c. search needs)
     returns-3
-    same-length-4
+    (λ c. search needs)
     returns-4)

@@ -25,9 +25,6 @@ loop-holds c =
     let a = c .before .args in
     (omega arith, (paste-zero (a .s .now) (a .at) (bytesOf (a .big) (a .size) (a .v)), refl))
 
-weight-requires : tie.Need-weight-requires Inv-loop μ-loop
-weight-requires c κs = search needs
-
 mul-s : tie.Need-mul-s Inv-loop μ-loop
 mul-s c = omega arith
 
@@ -82,7 +79,7 @@ scatter-walk-spec =
     Inv-loop
     μ-loop
     loop-holds
-    weight-requires
+    (λ c κs. search needs)
     mul-s
     shr-s
     cast-s

@@ -6,12 +6,6 @@ use Rattle.word.specs.Word.{significance}
 use Rattle.word.proofs.bytes.weight.Statement.{statement}
 use Rattle.word.proofs.bytes.weight.Tie as tie
 
-sub-result : tie.Need-sub-result
-sub-result c = search needs
-
-sub-result-2 : tie.Need-sub-result-2
-sub-result-2 c = search needs
-
 returns : tie.Need-returns
 unfolding significance
 returns c = rw (c .if1 .taken) (refl, omega arith)
@@ -21,4 +15,4 @@ unfolding significance
 returns-2 c = rw (c .if1 .left) (refl, c .before .pre)
 
 pub weight-spec : {M : Type 1} → statement M
-weight-spec = tie.close (tie.spec sub-result sub-result-2 returns returns-2)
+weight-spec = tie.close (tie.spec (λ c. search needs) (λ c. search needs) returns returns-2)

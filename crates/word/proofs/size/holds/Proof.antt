@@ -12,11 +12,8 @@ returns c =
     let a = c .before .args in
     sym (lt-ltb (a .x) _ (omega (arith, size-mono 8 (a .size) (c .if1 .taken), c .before .fits .x .fits)))
 
-modulus-requires : tie.Need-modulus-requires
-modulus-requires c κs = search needs
-
 returns-2 : tie.Need-returns-2
 returns-2 c = rw (c .modulus .ensures) refl
 
 pub holds-spec : {M : Type 1} → statement M
-holds-spec = tie.close (tie.spec returns modulus-requires returns-2)
+holds-spec = tie.close (tie.spec returns (λ c κs. search needs) returns-2)

@@ -8,9 +8,6 @@ use Rattle.word.proofs.Powers.{size-pos}
 use Rattle.word.proofs.size.low.Statement.{statement}
 use Rattle.word.proofs.size.low.Tie as tie
 
-modulus-requires : tie.Need-modulus-requires
-modulus-requires c κs = search needs
-
 rem-result : tie.Need-rem-result
 rem-result c = rw (c .modulus .ensures) (size-pos _)
 
@@ -24,4 +21,4 @@ returns-2 c =
     rw e (sym (mod-eq-of-lt {n = a .x} {m = 2 ^ 64} (c .before .fits .x .fits)))
 
 pub low-spec : {M : Type 1} → statement M
-low-spec = tie.close (tie.spec modulus-requires rem-result returns returns-2)
+low-spec = tie.close (tie.spec (λ c κs. search needs) rem-result returns returns-2)

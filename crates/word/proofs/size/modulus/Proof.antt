@@ -9,12 +9,6 @@ use Rattle.word.proofs.Powers.{shifted-bytes, size-mono}
 use Rattle.word.proofs.size.modulus.Statement.{statement}
 use Rattle.word.proofs.size.modulus.Tie as tie
 
-mul-result : tie.Need-mul-result
-mul-result c = search needs
-
-shl-result : tie.Need-shl-result
-shl-result c = search needs
-
 returns : tie.Need-returns
 returns c =
     let n = c .args .size in
@@ -22,4 +16,4 @@ returns c =
     shifted-bytes 1 n fits ∙ one-mul (256 ^ n)
 
 pub modulus-spec : {M : Type 1} → statement M
-modulus-spec = tie.close (tie.spec mul-result shl-result returns)
+modulus-spec = tie.close (tie.spec (λ c. search needs) (λ c. search needs) returns)
