@@ -15,8 +15,8 @@ const LOOP: &str = "run_labelled::run_any";
 const CALLED: [&str; 5] = [
     LOOP,
     "arithmetic::value",
-    "exports_runs::labelled_run",
-    "exports_runs::run",
+    "runs::labelled_run",
+    "runs::run",
     "validation::first_malformed",
 ];
 

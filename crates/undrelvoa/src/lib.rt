@@ -81,7 +81,7 @@ pub extern "C" fn undrelvoa_scatter(
     if fault != 0 {
         return fault;
     }
-    word::bytes::scatter(order == 1, bytes, offset as usize, size as usize, value);
+    store(order == 1, bytes, offset as usize, size as usize, value);
     0
 }
 
@@ -304,6 +304,18 @@ fn value_of(big: bool, bytes: &[u8], at: usize, size: usize) -> u64
         word::bytes::gather(true, bytes, at, size)
     } else {
         word::bytes::gather(false, bytes, at, size)
+    }
+}
+
+// Stores the bytes of a value, in the same way.
+fn store(big: bool, bytes: &mut [u8], at: usize, size: usize, value: u64)
+    requires { ⌜ (size ≤ 8) × (at + size ≤ length (now bytes)) ⌝ }
+    ensures { λ _. ⌜ now (bytes .exit) ≡ sets (now (bytes .entry)) at (bytesOf big size value) ⌝ }
+{
+    if big {
+        word::bytes::scatter(true, bytes, at, size, value)
+    } else {
+        word::bytes::scatter(false, bytes, at, size, value)
     }
 }
 
