@@ -8,6 +8,7 @@ use borrow.Author.Tests.{leb-true, eq-eqb, ne-eqb, ltb-true, ltb-false}
 use lib.Dec.{eqb, leb, ltb}
 use Rattle.word.specs.Word.{isSize}
 use Rattle.integer.proofs.Booleans.{both, or-true}
+use Rattle.arithmetic.specs.Opcodes.{mostInputs}
 use Rattle.operation.specs.declared.layout.Varnode.{Varnode}
 use Rattle.operation.specs.declared.layout.Lengths.{Lengths}
 use Rattle.operation.specs.declared.decode.Decoded.the-variants.{Accepted, Fault}
@@ -88,21 +89,21 @@ module _ (a : ℕ) (lengths : Lengths) (list : List ℕ) (i : ℕ) where
   at-head h = rw h
 
   module _ (head : breaksHead list i ≡ false) where
-    pub at-shape : (k : ℕ) → k < 4 → breaksShapeAt list i k ≡ true → lowestRule a lengths list i ≡ 22
+    pub at-shape : (k : ℕ) → k < mostInputs + 1 → breaksShapeAt list i k ≡ true → lowestRule a lengths list i ≡ 22
     unfolding lowestRule anyPlace
-    at-shape k h t = rw (head, any-at (breaksShapeAt list i) 4 k h t)
+    at-shape k h t = rw (head, any-at (breaksShapeAt list i) (mostInputs + 1) k h t)
 
-    module _ (shape : anyBelow 4 (breaksShapeAt list i) ≡ false) where
-      pub at-place : anyBelow 4 (λ place. breaksPlace (opcodeAt list i) place (varnodeAt list i place)) ≡ true → lowestRule a lengths list i ≡ 23
+    module _ (shape : anyBelow (mostInputs + 1) (breaksShapeAt list i) ≡ false) where
+      pub at-place : anyBelow (mostInputs + 1) (λ place. breaksPlace (opcodeAt list i) place (varnodeAt list i place)) ≡ true → lowestRule a lengths list i ≡ 23
       unfolding lowestRule anyPlace
       at-place t = rw (head, shape, t)
 
-      module _ (placed : anyBelow 4 (λ place. breaksPlace (opcodeAt list i) place (varnodeAt list i place)) ≡ false) where
-        pub at-range : anyBelow 4 (λ place. breaksRange lengths (opcodeAt list i) place (varnodeAt list i place)) ≡ true → lowestRule a lengths list i ≡ 24
+      module _ (placed : anyBelow (mostInputs + 1) (λ place. breaksPlace (opcodeAt list i) place (varnodeAt list i place)) ≡ false) where
+        pub at-range : anyBelow (mostInputs + 1) (λ place. breaksRange lengths (opcodeAt list i) place (varnodeAt list i place)) ≡ true → lowestRule a lengths list i ≡ 24
         unfolding lowestRule anyPlace
         at-range t = rw (head, shape, placed, t)
 
-        pub at-last : (r : ℕ) → anyBelow 4 (λ place. breaksRange lengths (opcodeAt list i) place (varnodeAt list i place)) ≡ false
+        pub at-last : (r : ℕ) → anyBelow (mostInputs + 1) (λ place. breaksRange lengths (opcodeAt list i) place (varnodeAt list i place)) ≡ false
             → r ≡ sizeOrTarget a list i
             → lowestRule a lengths list i ≡ r
         unfolding lowestRule anyPlace

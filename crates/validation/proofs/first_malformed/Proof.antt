@@ -1,10 +1,11 @@
 -- `validation::first_malformed` meets its contract. The walk has found no fault before operation i, nor rule 22 before the place.
-use Prim.Native.Nat.{_-_, _≤_}
+use Prim.Native.Nat.{_+_, _-_, _≤_}
 use mathlib.Core.Bool.{false}
 use mathlib.Core.Path.{_≡_, refl, sym, _∙_}
 use native.Mathlib.Omega.{arith}
 use borrow.Author.Needs.{needs}
 use Rattle.validation.proofs.Walk.{first-start, first-skip, left-at-end, left-at, any-none, any-grows, at-head, at-shape, at-place, at-range, at-last, fault-of, shape-of, varnode-of, same-place, same-range}
+use Rattle.arithmetic.specs.Opcodes.{mostInputs}
 use Rattle.operation.specs.Layout.{operationCount, opcodeAt, varnodeAt}
 use Rattle.operation.specs.Decoding.{decodedAt}
 use Rattle.operation.specs.Rules.{breaksShapeAt, breaksPlace, breaksRange}
@@ -14,12 +15,12 @@ use Rattle.validation.proofs.first_malformed.Tie as tie
 
 abbrev Inv-loop : tie.InvT-loop
 Inv-loop address-size lengths list count rule₀ i opcode misplaced₀ outside₀ place₀ rule misplaced outside place =
-    (place ≤ 4) × (rule ≡ 0) × (anyBelow place (breaksShapeAt list i) ≡ false)
+    (place ≤ mostInputs + 1) × (rule ≡ 0) × (anyBelow place (breaksShapeAt list i) ≡ false)
     × (misplaced ≡ anyBelow place (λ p. breaksPlace (opcodeAt list i) p (varnodeAt list i p)))
     × (outside ≡ anyBelow place (λ p. breaksRange lengths (opcodeAt list i) p (varnodeAt list i p)))
 
 abbrev μ-loop : tie.MeasureT-loop
-μ-loop address-size lengths list count rule₀ i opcode misplaced₀ outside₀ place₀ rule misplaced outside place = 4 - place
+μ-loop address-size lengths list count rule₀ i opcode misplaced₀ outside₀ place₀ rule misplaced outside place = mostInputs + 1 - place
 
 abbrev Inv-operations : tie.InvT-operations
 Inv-operations address-size lengths list count rule₀ i₀ rule i =
@@ -57,13 +58,26 @@ loop-less c = omega arith
 loop-again : tie.Need-loop-again Inv-loop μ-loop Inv-operations μ-operations
 unfolding varnodeAt breaksShapeAt decodedAt
 loop-again c =
-    let e = sym (c .before .before .before .before .before .before .before .decode-at .ensures) ∙ c .before .before .before .before .before .v .given .1 in
+    let at-place = c .before .before .before in
+    let known = at-place .before .before in
+    let at-decode = known .before .before in
+    let at-loop = at-decode .before .before in
+    let at-opcode = at-loop .before in
+    let walk = at-opcode .before .before .before .before in
+    let a = walk .before .before .before .args in
+    let list = a .list .now in
+    let i = walk .operations .i in
+    let place = at-loop .loop .place in
+    let inv = at-loop .loop .inv in
+    let e = sym (at-decode .decode-at .ensures) ∙ known .v .given .1 in
     let v = varnode-of _ _ _ _ e in (
       omega arith,
-      c .before .before .before .before .before .before .before .before .before .loop .inv .1,
-      sym (any-grows (breaksShapeAt (c .before .before .before .before .before .before .before .before .before .before .before .before .before .before .before .before .before .args .list .now) (c .before .before .before .before .before .before .before .before .before .before .before .before .before .before .operations .i)) (c .before .before .before .before .before .before .before .before .before .loop .place) {m = false} {q = false} refl (sym (c .before .before .before .before .before .before .before .before .before .loop .inv .2)) (sym (shape-of _ _ _ _ e))),
-      any-grows (λ p. breaksPlace (opcodeAt (c .before .before .before .before .before .before .before .before .before .before .before .before .before .before .before .before .before .args .list .now) (c .before .before .before .before .before .before .before .before .before .before .before .before .before .before .operations .i)) p (varnodeAt (c .before .before .before .before .before .before .before .before .before .before .before .before .before .before .before .before .before .args .list .now) (c .before .before .before .before .before .before .before .before .before .before .before .before .before .before .operations .i) p)) (c .before .before .before .before .before .before .before .before .before .loop .place) (c .before .before .either .ensures) (c .before .before .before .before .before .before .before .before .before .loop .inv .3) (c .before .before .before .breaks-place .ensures ∙ same-place (c .before .before .before .before .before .before .before .before .before .loop .place) (c .before .before .before .before .before .before .before .before .before .before .opcode-at .ensures) v),
-      any-grows (λ p. breaksRange (c .before .before .before .before .before .before .before .before .before .before .before .before .before .before .before .before .before .args .lengths) (opcodeAt (c .before .before .before .before .before .before .before .before .before .before .before .before .before .before .before .before .before .args .list .now) (c .before .before .before .before .before .before .before .before .before .before .before .before .before .before .operations .i)) p (varnodeAt (c .before .before .before .before .before .before .before .before .before .before .before .before .before .before .before .before .before .args .list .now) (c .before .before .before .before .before .before .before .before .before .before .before .before .before .before .operations .i) p)) (c .before .before .before .before .before .before .before .before .before .loop .place) (c .either2 .ensures) (c .before .before .before .before .before .before .before .before .before .loop .inv .4) (c .before .breaks-range .ensures ∙ same-range (c .before .before .before .before .before .before .before .before .before .before .before .before .before .before .before .before .before .args .lengths) (c .before .before .before .before .before .before .before .before .before .loop .place) (c .before .before .before .before .before .before .before .before .before .before .opcode-at .ensures) v),
+      inv .1,
+      sym (any-grows (breaksShapeAt list i) place {m = false} {q = false} refl (sym (inv .2)) (sym (shape-of _ _ _ _ e))),
+      any-grows (λ p. breaksPlace (opcodeAt list i) p (varnodeAt list i p)) place (c .before .before .either .ensures) (inv .3)
+          (at-place .breaks-place .ensures ∙ same-place place (at-opcode .opcode-at .ensures) v),
+      any-grows (λ p. breaksRange (a .lengths) (opcodeAt list i) p (varnodeAt list i p)) place (c .either2 .ensures) (inv .4)
+          (c .before .breaks-range .ensures ∙ same-range (a .lengths) place (at-opcode .opcode-at .ensures) v),
     )
 
 size-or-target-requires :
@@ -80,39 +94,95 @@ operations-less c = omega arith
 operations-again : tie.Need-operations-again Inv-loop μ-loop Inv-operations μ-operations
 unfolding operationCount
 operations-again c =
-    let four : c .before .before .before .before .before .loop .place ≡ 4 = omega arith in
-    let zero-rule = at-last (c .before .before .before .before .before .before .before .before .before .before .before .before .before .args .address-size) (c .before .before .before .before .before .before .before .before .before .before .before .before .before .args .lengths) (c .before .before .before .before .before .before .before .before .before .before .before .before .before .args .list .now) (c .before .before .before .before .before .before .before .before .before .before .operations .i) (sym (c .before .before .before .before .before .before .before .before .breaks-head .ensures) ∙ c .before .before .before .before .before .before .before .if1 .left) (rw four at (c .before .before .before .before .before .loop .inv .2)) (sym (rw four at (c .before .before .before .before .before .loop .inv .3)) ∙ c .before .before .before .if2 .left) _ (sym (rw four at (c .before .before .before .before .before .loop .inv .4)) ∙ c .before .before .if3 .left) (c .before .size-or-target .ensures) ∙ c .if4 .left in
-    (omega arith, c .if4 .left, sym (first-skip _ _ (c .before .before .before .before .before .before .before .before .before .before .operations .i) (omega arith) zero-rule) ∙ c .before .before .before .before .before .before .before .before .before .before .operations .inv .2)
+    let past-range = c .before .before in
+    let past-place = past-range .before in
+    let at-loop = past-place .before .before in
+    let at-head = at-loop .before .before .before in
+    let walk = at-head .before .before in
+    let a = walk .before .before .before .args in
+    let inv = at-loop .loop .inv in
+    let last : at-loop .loop .place ≡ mostInputs + 1 = omega arith in
+    let head = sym (at-head .breaks-head .ensures) ∙ at-loop .before .before .if1 .left in
+    let zero-rule =
+    at-last (a .address-size) (a .lengths) (a .list .now) (walk .operations .i) head (rw last at (inv .2))
+    (sym (rw last at (inv .3)) ∙ past-place .if2 .left) _ (sym (rw last at (inv .4)) ∙ past-range .if3 .left) (c .before .size-or-target .ensures)
+    ∙ c .if4 .left in
+    (omega arith, c .if4 .left, sym (first-skip _ _ (walk .operations .i) (omega arith) zero-rule) ∙ walk .operations .inv .2)
 
 returns : tie.Need-returns Inv-loop μ-loop Inv-operations μ-operations
 unfolding operationCount
-returns c = left-at-end (c .before .before .before .before .args .address-size) (c .before .before .before .before .args .lengths) (c .before .before .before .before .args .list .now) (c .before .operations .i) _ (c .before .operations .inv .2) (c .before .operations .inv .1) (omega arith)
+returns c =
+    let walk = c .before in
+    let a = walk .before .before .before .args in
+    left-at-end (a .address-size) (a .lengths) (a .list .now) (walk .operations .i) _ (walk .operations .inv .2) (walk .operations .inv .1) (omega arith)
 
 returns-2 : tie.Need-returns-2 Inv-loop μ-loop Inv-operations μ-operations
 unfolding operationCount
-returns-2 c = left-at (c .before .before .before .before .before .before .args .address-size) (c .before .before .before .before .before .before .args .lengths) (c .before .before .before .before .before .before .args .list .now) (c .before .before .before .operations .i) _ (c .before .before .before .operations .inv .2) (at-head (c .before .before .before .before .before .before .args .address-size) (c .before .before .before .before .before .before .args .lengths) (c .before .before .before .before .before .before .args .list .now) (c .before .before .before .operations .i) (sym (c .before .breaks-head .ensures) ∙ c .if1 .taken)) (λ z. omega (arith, z)) (omega arith)
+returns-2 c =
+    let walk = c .before .before .before in
+    let a = walk .before .before .before .args in
+    left-at (a .address-size) (a .lengths) (a .list .now) (walk .operations .i) _ (walk .operations .inv .2)
+    (at-head (a .address-size) (a .lengths) (a .list .now) (walk .operations .i) (sym (c .before .breaks-head .ensures) ∙ c .if1 .taken)) (λ z. omega (arith, z)) (omega arith)
 
 returns-3 : tie.Need-returns-3 Inv-loop μ-loop Inv-operations μ-operations
 unfolding operationCount breaksShapeAt decodedAt
-returns-3 c = left-at (c .before .before .before .before .before .before .before .before .before .before .before .before .args .address-size) (c .before .before .before .before .before .before .before .before .before .before .before .before .args .lengths) (c .before .before .before .before .before .before .before .before .before .before .before .before .args .list .now) (c .before .before .before .before .before .before .before .before .before .operations .i) _ (c .before .before .before .before .before .before .before .before .before .operations .inv .2) (at-shape (c .before .before .before .before .before .before .before .before .before .before .before .before .args .address-size) (c .before .before .before .before .before .before .before .before .before .before .before .before .args .lengths) (c .before .before .before .before .before .before .before .before .before .before .before .before .args .list .now) (c .before .before .before .before .before .before .before .before .before .operations .i) (sym (c .before .before .before .before .before .before .before .breaks-head .ensures) ∙ c .before .before .before .before .before .before .if1 .left) (c .before .before .before .before .loop .place) (omega arith) (fault-of _ _ _ (sym (c .before .before .decode-at .ensures) ∙ c .enum-told .given .1))) (λ z. omega (arith, z)) (omega arith)
+returns-3 c =
+    let at-decode = c .before .before in
+    let at-loop = at-decode .before .before in
+    let past-head = at-loop .before .before in
+    let walk = past-head .before .before .before in
+    let a = walk .before .before .before .args in
+    left-at (a .address-size) (a .lengths) (a .list .now) (walk .operations .i) _ (walk .operations .inv .2)
+    (at-shape (a .address-size) (a .lengths) (a .list .now) (walk .operations .i) (sym (past-head .before .breaks-head .ensures) ∙ past-head .if1 .left)
+    (at-loop .loop .place) (omega arith) (fault-of _ _ _ (sym (at-decode .decode-at .ensures) ∙ c .enum-told .given .1)))
+    (λ z. omega (arith, z)) (omega arith)
 
 returns-4 : tie.Need-returns-4 Inv-loop μ-loop Inv-operations μ-operations
 unfolding operationCount
 returns-4 c =
-    let four : c .before .before .loop .place ≡ 4 = omega arith in
-    left-at (c .before .before .before .before .before .before .before .before .before .before .args .address-size) (c .before .before .before .before .before .before .before .before .before .before .args .lengths) (c .before .before .before .before .before .before .before .before .before .before .args .list .now) (c .before .before .before .before .before .before .before .operations .i) _ (c .before .before .before .before .before .before .before .operations .inv .2) (at-place (c .before .before .before .before .before .before .before .before .before .before .args .address-size) (c .before .before .before .before .before .before .before .before .before .before .args .lengths) (c .before .before .before .before .before .before .before .before .before .before .args .list .now) (c .before .before .before .before .before .before .before .operations .i) (sym (c .before .before .before .before .before .breaks-head .ensures) ∙ c .before .before .before .before .if1 .left) (rw four at (c .before .before .loop .inv .2)) (sym (rw four at (c .before .before .loop .inv .3)) ∙ c .if2 .taken)) (λ z. omega (arith, z)) (omega arith)
+    let at-loop = c .before .before in
+    let at-head = at-loop .before .before .before in
+    let walk = at-head .before .before in
+    let a = walk .before .before .before .args in
+    let inv = at-loop .loop .inv in
+    let last : at-loop .loop .place ≡ mostInputs + 1 = omega arith in
+    let head = sym (at-head .breaks-head .ensures) ∙ at-loop .before .before .if1 .left in
+    left-at (a .address-size) (a .lengths) (a .list .now) (walk .operations .i) _ (walk .operations .inv .2)
+    (at-place (a .address-size) (a .lengths) (a .list .now) (walk .operations .i) head (rw last at (inv .2)) (sym (rw last at (inv .3)) ∙ c .if2 .taken))
+    (λ z. omega (arith, z)) (omega arith)
 
 returns-5 : tie.Need-returns-5 Inv-loop μ-loop Inv-operations μ-operations
 unfolding operationCount
 returns-5 c =
-    let four : c .before .before .before .loop .place ≡ 4 = omega arith in
-    left-at (c .before .before .before .before .before .before .before .before .before .before .before .args .address-size) (c .before .before .before .before .before .before .before .before .before .before .before .args .lengths) (c .before .before .before .before .before .before .before .before .before .before .before .args .list .now) (c .before .before .before .before .before .before .before .before .operations .i) _ (c .before .before .before .before .before .before .before .before .operations .inv .2) (at-range (c .before .before .before .before .before .before .before .before .before .before .before .args .address-size) (c .before .before .before .before .before .before .before .before .before .before .before .args .lengths) (c .before .before .before .before .before .before .before .before .before .before .before .args .list .now) (c .before .before .before .before .before .before .before .before .operations .i) (sym (c .before .before .before .before .before .before .breaks-head .ensures) ∙ c .before .before .before .before .before .if1 .left) (rw four at (c .before .before .before .loop .inv .2)) (sym (rw four at (c .before .before .before .loop .inv .3)) ∙ c .before .if2 .left) (sym (rw four at (c .before .before .before .loop .inv .4)) ∙ c .if3 .taken)) (λ z. omega (arith, z)) (omega arith)
+    let past-place = c .before in
+    let at-loop = past-place .before .before in
+    let at-head = at-loop .before .before .before in
+    let walk = at-head .before .before in
+    let a = walk .before .before .before .args in
+    let inv = at-loop .loop .inv in
+    let last : at-loop .loop .place ≡ mostInputs + 1 = omega arith in
+    let head = sym (at-head .breaks-head .ensures) ∙ at-loop .before .before .if1 .left in
+    left-at (a .address-size) (a .lengths) (a .list .now) (walk .operations .i) _ (walk .operations .inv .2)
+    (at-range (a .address-size) (a .lengths) (a .list .now) (walk .operations .i) head (rw last at (inv .2))
+    (sym (rw last at (inv .3)) ∙ past-place .if2 .left) (sym (rw last at (inv .4)) ∙ c .if3 .taken))
+    (λ z. omega (arith, z)) (omega arith)
 
 returns-6 : tie.Need-returns-6 Inv-loop μ-loop Inv-operations μ-operations
 unfolding operationCount
 returns-6 c =
-    let four : c .before .before .before .before .before .loop .place ≡ 4 = omega arith in
-    left-at (c .before .before .before .before .before .before .before .before .before .before .before .before .before .args .address-size) (c .before .before .before .before .before .before .before .before .before .before .before .before .before .args .lengths) (c .before .before .before .before .before .before .before .before .before .before .before .before .before .args .list .now) (c .before .before .before .before .before .before .before .before .before .before .operations .i) _ (c .before .before .before .before .before .before .before .before .before .before .operations .inv .2) (at-last (c .before .before .before .before .before .before .before .before .before .before .before .before .before .args .address-size) (c .before .before .before .before .before .before .before .before .before .before .before .before .before .args .lengths) (c .before .before .before .before .before .before .before .before .before .before .before .before .before .args .list .now) (c .before .before .before .before .before .before .before .before .before .before .operations .i) (sym (c .before .before .before .before .before .before .before .before .breaks-head .ensures) ∙ c .before .before .before .before .before .before .before .if1 .left) (rw four at (c .before .before .before .before .before .loop .inv .2)) (sym (rw four at (c .before .before .before .before .before .loop .inv .3)) ∙ c .before .before .before .if2 .left) _ (sym (rw four at (c .before .before .before .before .before .loop .inv .4)) ∙ c .before .before .if3 .left) (c .before .size-or-target .ensures)) (c .if4 .taken) (omega arith)
+    let past-range = c .before .before in
+    let past-place = past-range .before in
+    let at-loop = past-place .before .before in
+    let at-head = at-loop .before .before .before in
+    let walk = at-head .before .before in
+    let a = walk .before .before .before .args in
+    let inv = at-loop .loop .inv in
+    let last : at-loop .loop .place ≡ mostInputs + 1 = omega arith in
+    let head = sym (at-head .breaks-head .ensures) ∙ at-loop .before .before .if1 .left in
+    left-at (a .address-size) (a .lengths) (a .list .now) (walk .operations .i) _ (walk .operations .inv .2)
+    (at-last (a .address-size) (a .lengths) (a .list .now) (walk .operations .i) head (rw last at (inv .2))
+    (sym (rw last at (inv .3)) ∙ past-place .if2 .left) _ (sym (rw last at (inv .4)) ∙ past-range .if3 .left) (c .before .size-or-target .ensures))
+    (c .if4 .taken) (omega arith)
 
 pub first-malformed-spec : {M : Type 1} → statement M
 first-malformed-spec =
