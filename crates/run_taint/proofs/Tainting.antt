@@ -7,7 +7,7 @@ use mathlib.Core.List.{List}
 use borrow.Author.Tests.{eqb-true, ne-eqb, lt-leb}
 use lib.Dec.{eqb}
 use Rattle.integer.proofs.Booleans.{or-false, neither}
-use Rattle.arithmetic.specs.Opcodes.{member}
+use Rattle.arithmetic.specs.Opcodes.{mostInputs, member}
 use Rattle.arithmetic.specs.Operands.{divides}
 use Rattle.operation.specs.declared.layout.Varnode.{Varnode}
 use Rattle.operation.specs.Layout.{operationCount, opcodeAt, varnodeAt, absent}
@@ -138,7 +138,7 @@ module _ (labels : Memory) (op : Operation) (b : ℕ) where
 -- ---- where the code may look
 
 module _ (labels : Memory) (list : List ℕ) (v : Valid (lengthsOf labels) list) (i : ℕ) (h : i < operationCount list) where
-  pub place : (k : ℕ) → k ≤ 3 → (k ≡ 1 → branches (opcodeAt list i) ≡ false) → Placed labels (varnodeAt list i k)
+  pub place : (k : ℕ) → k ≤ mostInputs → (k ≡ 1 → branches (opcodeAt list i) ≡ false) → Placed labels (varnodeAt list i k)
   place k l exempt = placed labels (v .addressSize) list i (v .operations i h) k l exempt
 
   place-watched : Placed labels (watched (opcodeAt list i) (varnodeAt list i 1) (varnodeAt list i 2))
@@ -149,7 +149,7 @@ module _ (labels : Memory) (list : List ℕ) (v : Valid (lengthsOf labels) list)
 
 -- a varnode that the code found, for any labels
 module _ (list : List ℕ) (i : ℕ) (v : Varnode) (e : v ≡ watched (opcodeAt list i) (varnodeAt list i 1) (varnodeAt list i 2)) where
-  pub exactStep : ((labels : Memory) → hasSecret labels v ≡ leaks labels (operationAt list i))
+  pub sink-tells : ((labels : Memory) → hasSecret labels v ≡ leaks labels (operationAt list i))
       × ((labels : Memory) → Valid (lengthsOf labels) list → i < operationCount list → Placed labels v)
   unfolding operationAt
-  exactStep = (λ labels. rw e (sym (leaks-watched labels (operationAt list i))), λ labels w h. rw e (place-watched labels list w i h))
+  sink-tells = (λ labels. rw e (sym (leaks-watched labels (operationAt list i))), λ labels w h. rw e (place-watched labels list w i h))

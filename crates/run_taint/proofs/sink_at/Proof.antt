@@ -5,7 +5,7 @@ use native.Mathlib.Omega.{arith}
 use borrow.Author.Needs.{needs}
 use lib.Dec.{eqb}
 use Rattle.operation.specs.Rules.{accesses}
-use Rattle.run_taint.proofs.Tainting.{watched-late, watched-tested, watched-none, exactStep}
+use Rattle.run_taint.proofs.Tainting.{watched-late, watched-tested, watched-none, sink-tells}
 use Rattle.run_taint.proofs.sink_at.Statement.{statement}
 use Rattle.run_taint.proofs.sink_at.Tie as tie
 
@@ -14,7 +14,7 @@ returns c =
     let divided = c .before .before in
     let decoded = divided .before .before in
     let n = decoded .opcode-at .result in
-    exactStep _ _ _ (c .varnode-at .ensures
+    sink-tells _ _ _ (c .varnode-at .ensures
     ∙ rw (← decoded .opcode-at .ensures) (sym (watched-late n _ _ (divided .before .if1 .taken) ∙ rw (← divided .is-division .ensures, c .before .if2 .taken) refl)))
 
 returns-2 : tie.Need-returns-2
@@ -22,7 +22,7 @@ returns-2 c =
     let divided = c .before .before in
     let decoded = divided .before .before in
     let n = decoded .opcode-at .result in
-    exactStep _ _ _ (c .absent .ensures
+    sink-tells _ _ _ (c .absent .ensures
     ∙ rw (← decoded .opcode-at .ensures) (sym (watched-late n _ _ (divided .before .if1 .taken) ∙ rw (← divided .is-division .ensures, c .before .if2 .left) refl)))
 
 returns-3 : tie.Need-returns-3
@@ -31,14 +31,14 @@ returns-3 c =
     let decoded = tested .before .before .before in
     let n = decoded .opcode-at .result in
     let h : accesses n || eqb n 5 ≡ true = rw (← tested .before .accesses .ensures) (sym (tested .either .ensures) ∙ c .before .if3 .taken) in
-    exactStep _ _ _ (c .varnode-at2 .ensures ∙ rw (← decoded .opcode-at .ensures) (sym (watched-tested n _ _ h)))
+    sink-tells _ _ _ (c .varnode-at2 .ensures ∙ rw (← decoded .opcode-at .ensures) (sym (watched-tested n _ _ h)))
 
 returns-4 : tie.Need-returns-4
 returns-4 c =
     let jumped = c .before .before in
     let tested = jumped .before .before in
     let decoded = tested .before .before .before in
-    exactStep _ _ _ (c .varnode-at3 .ensures ∙ rw (← decoded .opcode-at .ensures, ← jumped .jumps .ensures, c .before .if4 .taken) refl)
+    sink-tells _ _ _ (c .varnode-at3 .ensures ∙ rw (← decoded .opcode-at .ensures, ← jumped .jumps .ensures, c .before .if4 .taken) refl)
 
 returns-5 : tie.Need-returns-5
 returns-5 c =
@@ -47,7 +47,7 @@ returns-5 c =
     let decoded = tested .before .before .before in
     let n = decoded .opcode-at .result in
     let h : accesses n || eqb n 5 ≡ false = rw (← tested .before .accesses .ensures) (sym (tested .either .ensures) ∙ jumped .before .if3 .left) in
-    exactStep _ _ _ (c .absent2 .ensures
+    sink-tells _ _ _ (c .absent2 .ensures
     ∙ rw (← decoded .opcode-at .ensures) (sym (watched-none n _ _ (omega arith) h (sym (jumped .jumps .ensures) ∙ c .before .if4 .left))))
 
 pub sink-at-spec : {M : Type 1} → statement M
