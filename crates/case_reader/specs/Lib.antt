@@ -1,2 +1,4 @@
-pub mod Text
+pub mod Case
+pub mod Buffers
+pub mod Lines
 pub mod Stream

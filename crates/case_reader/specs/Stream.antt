@@ -4,9 +4,9 @@ use mathlib.Core.Path.{_≡_}
 use mathlib.Core.List.{List, [], _++_}
 use lib.ListN.{length, take}
 use Rattle.operation.specs.Layout.{wordsPerOperation}
-use Rattle.case_line.specs.Case.{mostCaseOperations, mostCaseBytes}
-use Rattle.case_line.specs.Buffers.{progressIn, Zeros, Sound}
-use Rattle.case_reader.specs.Text.{linesOf, restOf, noLine, linesRead}
+use Rattle.case_reader.specs.Case.{mostCaseOperations, mostCaseBytes}
+use Rattle.case_reader.specs.Buffers.{progressIn, Zeros, Sound}
+use Rattle.case_reader.specs.Lines.{linesOf, restOf, noLine, linesRead}
 use Rattle.case_reader.specs.declared.stream.Reader.{Reader}
 
 -- A line that is longer than any frame is kept only in part.

@@ -3,8 +3,8 @@ ghost use mathlib.Core.Path.{_≡_};
 ghost use Prim.Native.Nat.{_*_};
 ghost use lib.ListN.{length};
 ghost use Rattle.operation.specs.Layout.{wordsPerOperation};
-ghost use Rattle.case_line.specs.Case.{mostCaseOperations, mostCaseBytes};
-ghost use Rattle.case_line.specs.Buffers.{Zeros};
+ghost use Rattle.case_reader.specs.Case.{mostCaseOperations, mostCaseBytes};
+ghost use Rattle.case_reader.specs.Buffers.{Zeros};
 ghost use Rattle.case_reader.specs.Stream.{lineRoom};
 
 // More than the longest frame has.

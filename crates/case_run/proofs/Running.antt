@@ -9,8 +9,8 @@ use Rattle.operation.specs.declared.report.Report.{Report}
 use Rattle.machine.specs.Memory.{Memory}
 use Rattle.machine.specs.Calls.{Outcome, labelledOutcome, labelledRun}
 use Rattle.machine.proofs.Limits.{limits}
-use Rattle.printing.specs.Appended.{Appended}
-use Rattle.outcome_text.specs.Outcome.{logRoom, outcomeText}
+use Rattle.case_printing.specs.Appended.{Appended}
+use Rattle.case_printing.specs.Outcome.{logRoom, outcomeText}
 use Rattle.case_run.specs.Run.{startIndex}
 
 -- the log words written have their place in the log

@@ -2,8 +2,8 @@
 use Prim.Native.Nat.{ℕ}
 use lib.ListN.{replicate}
 use Rattle.machine.specs.Calls.{Outcome, labelledRun}
-use Rattle.case_line.specs.Case.{Case}
-use Rattle.outcome_text.specs.Outcome.{logRoom}
+use Rattle.case_reader.specs.Case.{Case}
+use Rattle.case_printing.specs.Outcome.{logRoom}
 
 -- Start 0.
 abbrev pub startIndex : ℕ

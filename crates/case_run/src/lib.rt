@@ -3,13 +3,13 @@ ghost use Prim.Native.Nat.{_≤_};
 ghost use lib.ListN.{length, replicate};
 ghost use Rattle.machine.specs.Memory.{spaces};
 ghost use Rattle.machine.specs.Calls.{labelledRun};
-ghost use Rattle.printing.specs.Appended.{Appended};
-ghost use Rattle.outcome_text.specs.Outcome.{logRoom, outcomeText};
-ghost use Rattle.outcome_text.specs.Room.{outputRoom, Small};
+ghost use Rattle.case_printing.specs.Appended.{Appended};
+ghost use Rattle.case_printing.specs.Outcome.{logRoom, outcomeText};
+ghost use Rattle.case_printing.specs.Room.{outputRoom, Small};
 ghost use Rattle.case_run.specs.Run.{startIndex};
+use case_printing::outcome::put_outcome;
 use interpreter::labelled_run;
 use operation::layout::Settings;
-use outcome_text::put_outcome;
 
 const LOG_ROOM: usize = 1024;
 

@@ -9,12 +9,12 @@ use Rattle.operation.specs.declared.layout.Lengths.{Lengths}
 use Rattle.operation.specs.Layout.{wordsPerOperation}
 use Rattle.machine.specs.Memory.{Memory, spaces, lengthsOf}
 use Rattle.machine.specs.Calls.{labelledRun}
-use Rattle.case_line.specs.Case.{mostCaseBytes}
-use Rattle.case_line.specs.Buffers.{Fits, memoryIn, caseIn}
-use Rattle.case_line.specs.declared.Header.{Header}
-use Rattle.outcome_text.specs.Outcome.{logRoom}
+use Rattle.case_reader.specs.Case.{mostCaseBytes}
+use Rattle.case_reader.specs.Buffers.{Fits, memoryIn, caseIn}
+use Rattle.case_reader.specs.declared.line.Header.{Header}
+use Rattle.case_printing.specs.Outcome.{logRoom}
 use Rattle.case_run.specs.Run.{startIndex, outcome}
-use Rattle.outcome_text.specs.Room.{Small}
+use Rattle.case_printing.specs.Room.{Small}
 
 -- spaces that have the lengths of a case are small
 pub small : (m : Memory) (l : Lengths) → lengthsOf m ≡ l → Fits l → Small m

@@ -1,7 +1,7 @@
 -- `case_spaces::fill` meets its contract.
 use native.Mathlib.Omega.{arith}
 use Rattle.machine.specs.Memory.{lengthsOf}
-use Rattle.case_line.specs.Buffers.{memoryIn}
+use Rattle.case_reader.specs.Buffers.{memoryIn}
 use borrow.Author.Needs.{needs}
 use Rattle.case_spaces.proofs.fill.Statement.{statement}
 use Rattle.case_spaces.proofs.fill.Tie as tie

@@ -1,6 +1,6 @@
 -- `case_reader::buffers::spaces` meets its contract.
 use mathlib.Core.Path.{refl}
-use Rattle.case_line.proofs.Storage.{new-zeros}
+use Rattle.case_reader.proofs.Storage.{new-zeros}
 use Rattle.case_reader.proofs.buffers.spaces.Statement.{statement}
 use Rattle.case_reader.proofs.buffers.spaces.Tie as tie
 

@@ -1,6 +1,6 @@
 -- `case_reader::stream::next_number` meets its contract.
 use borrow.Author.Tests.{lt-ltb, le-ltb}
-use Rattle.case_reader.specs.Text.{nextNumber}
+use Rattle.case_reader.specs.Lines.{nextNumber}
 use borrow.Author.Needs.{needs}
 use Rattle.case_reader.proofs.stream.next_number.Statement.{statement}
 use Rattle.case_reader.proofs.stream.next_number.Tie as tie

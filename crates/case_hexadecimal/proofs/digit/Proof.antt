@@ -1,0 +1,52 @@
+-- `case_hexadecimal::digit` meets its contract.
+use borrow.Author.Tests.{lt-ltb, le-ltb}
+use Rattle.case_hexadecimal.specs.Digits.{digitOf}
+use borrow.Author.Needs.{needs}
+use Rattle.case_hexadecimal.proofs.digit.Statement.{statement}
+use Rattle.case_hexadecimal.proofs.digit.Tie as tie
+
+returns : tie.Need-returns
+unfolding digitOf
+returns c = rw (lt-ltb _ _ (c .if1 .taken))
+
+wide-requires : tie.Need-wide-requires
+wide-requires c κs = search needs
+
+sub-result : tie.Need-sub-result
+sub-result c = search needs
+
+returns-2 : tie.Need-returns-2
+unfolding digitOf
+returns-2 c = rw (le-ltb _ _ (c .before .before .if1 .left), lt-ltb _ _ (c .before .if2 .taken), c .wide .ensures)
+
+returns-3 : tie.Need-returns-3
+unfolding digitOf
+returns-3 c = rw (le-ltb _ _ (c .before .before .if1 .left), le-ltb _ _ (c .before .if2 .left), lt-ltb _ _ (c .if3 .taken))
+
+wide-requires-2 : tie.Need-wide-requires-2
+wide-requires-2 c κs = search needs
+
+sub-result-2 : tie.Need-sub-result-2
+sub-result-2 c = search needs
+
+returns-4 : tie.Need-returns-4
+unfolding digitOf
+returns-4 c = rw (le-ltb _ _ (c .before .before .before .before .if1 .left), le-ltb _ _ (c .before .before .before .if2 .left), le-ltb _ _ (c .before .before .if3 .left), lt-ltb _ _ (c .before .if4 .taken), c .wide2 .ensures)
+
+returns-5 : tie.Need-returns-5
+unfolding digitOf
+returns-5 c = rw (le-ltb _ _ (c .before .before .before .if1 .left), le-ltb _ _ (c .before .before .if2 .left), le-ltb _ _ (c .before .if3 .left), le-ltb _ _ (c .if4 .left))
+
+pub digit-spec : {M : Type 1} → statement M
+digit-spec =
+    tie.close
+    (tie.spec
+    returns
+    wide-requires
+    sub-result
+    returns-2
+    returns-3
+    wide-requires-2
+    sub-result-2
+    returns-4
+    returns-5)

@@ -1,0 +1,5 @@
+pub mod Appending
+pub mod Digits
+pub mod Lengths
+pub mod Lines
+pub mod Rooms

@@ -1,0 +1,62 @@
+-- `case_printing::text::put_bytes` meets its contract. The loop's invariant: the digits of the bytes passed are put.
+use Prim.Native.Nat.{ℕ, _-_, _≤_}
+use mathlib.Core.Path.{_≡_}
+use mathlib.Core.List.{List}
+use native.Mathlib.Omega.{arith}
+use borrow.Author.Needs.{needs}
+use lib.ListN.{length, getD}
+use Rattle.case_printing.specs.Text.{joined, hexText, bytesText}
+use Rattle.case_printing.specs.Appended.{Appended}
+use Rattle.case_printing.proofs.Appending.{joined-none, joined-then}
+use Rattle.case_printing.proofs.Lengths.{length-hex, past-joined}
+use Rattle.case_printing.proofs.text.put_bytes.Statement.{statement}
+use Rattle.case_printing.proofs.text.put_bytes.Tie as tie
+
+abbrev digits : List ℕ → ℕ → List ℕ
+digits s i = hexText 2 (getD s i 0)
+
+abbrev Inv-loop : tie.InvT-loop
+Inv-loop out₀ at s p₀ i₀ out p i = (i ≤ length s) × Appended at out₀ (joined i (digits s)) p out
+
+abbrev μ-loop : tie.MeasureT-loop
+μ-loop out₀ at s p₀ i₀ out p i = length s - i
+
+loop-holds : tie.Need-loop-holds Inv-loop μ-loop
+loop-holds c = (omega arith, joined-none _ _ _ (omega arith))
+
+shared-slice-read-wide : tie.Need-shared-slice-read-wide Inv-loop μ-loop
+shared-slice-read-wide c = search needs
+
+wide-requires : tie.Need-wide-requires Inv-loop μ-loop
+wide-requires c κs = tt
+
+put-hex-requires : tie.Need-put-hex-requires Inv-loop μ-loop
+put-hex-requires c κs =
+    let l = c .before .before .before .before .loop in
+    let s = c .before .before .before .before .before .before .before .args .s .now in
+    let so-far = past-joined 2 (l .i) (digits s) (λ k. omega (arith, length-hex 2 (getD s k 0))) (l .inv .1) in
+    omega (arith, so-far, c .before .before .before .before .before .before .before .pre)
+
+add-i : tie.Need-add-i Inv-loop μ-loop
+add-i c = search needs
+
+loop-less : tie.Need-loop-less Inv-loop μ-loop
+loop-less c = search needs
+
+loop-again : tie.Need-loop-again Inv-loop μ-loop
+loop-again c =
+    let l = c .before .before .before .before .before .before .before .loop in
+    let s = c .before .before .before .before .before .before .before .before .before .before .args .s .now in
+    (search needs, joined-then (l .i) (digits s) (l .inv .1) (rw (← (c .before .before .before .wide .ensures)) (c .before .before .put-hex .ensures)))
+
+same-length : tie.Need-same-length Inv-loop μ-loop
+same-length c = c .before .loop .inv .1 .long
+
+returns : tie.Need-returns Inv-loop μ-loop
+unfolding bytesText
+returns c =
+    let e : c .before .loop .i ≡ length (c .before .before .before .before .args .s .now) = search needs in
+    rw (← e) (c .before .loop .inv .1)
+
+pub put-bytes-spec : {M : Type 1} → statement M
+put-bytes-spec = tie.close (tie.spec Inv-loop μ-loop loop-holds shared-slice-read-wide wide-requires put-hex-requires add-i loop-less loop-again same-length returns)

@@ -1,4 +1,0 @@
-pub mod Appending
-pub mod Digits
-pub mod Lengths
-pub mod Lines
