@@ -1,58 +1,61 @@
--- Laws of frames: what a frame says of its line, and a turn of the loops that store.
-use Prim.Native.Nat.{ℕ, _+_, _-_, _*_, _%_, _≤_, _<_}
-use mathlib.Core.Path.{_≡_, refl, sym, ap, _∙_}
-use mathlib.Core.Bool.{Bool, true, false, cond}
+-- Laws of frames: what a frame says of its line.
+use Prim.Native.Nat.{ℕ, _%_, _≤_, _<_}
+use mathlib.Core.Path.{_≡_, refl, sym, _∙_}
+use mathlib.Core.Bool.{Bool, true, false, _&&_}
 use mathlib.Core.List.{List}
-use native.Mathlib.Numerals.{add-one}
 use native.Mathlib.Omega.{arith}
-use borrow.Author.Tests.{ltb-false, eqb-true}
-use lib.ListN.{length, set, length-set}
-use lib.Seq.{sets, paste, paste-zero, paste-suc, sets-eq, take-all}
-use lib.Dec.{ltb, eqb}
-use Rattle.word.specs.Sum.{tabulate}
-use Rattle.word.proofs.Sums.{tabulate-length, tabulate-at}
-use Rattle.case_hexadecimal.specs.Digits.{allDigits}
+use borrow.Author.Tests.{leb-true, eqb-true}
+use lib.ListN.{length}
+use lib.Dec.{leb, eqb}
+use Rattle.word.proofs.Tests.{by-cond}
+use Rattle.integer.proofs.Booleans.{both}
+use Rattle.case_hexadecimal.specs.Digits.{byteDigits, allDigits}
 use Rattle.case_frame.specs.declared.Frame.{Frame}
 use Rattle.case_frame.specs.declared.Frame.the-variants.{Opening, Bytes, Operation, Bad}
-use Rattle.case_frame.specs.Frames.{openingOf, bytesFrameOf, operationOf, frameBy, frameOf}
-
--- ---- what a frame says of its line
+use Rattle.case_frame.specs.Frames.{openingLength, mostFrameBytes, bytesLength, operationLength, longestFrame, openingOf, bytesFrameOf, operationOf, frameBy, frameOf}
 
 -- a 02 or 03 line
 pub record BytesLine (count : ℕ) (s : List ℕ) : Type 0 where
   pub some : 1 ≤ count
-  pub few : count ≤ 32
-  pub whole : length s ≡ 12 + 2 * count
+  pub few : count ≤ mostFrameBytes
+  pub whole : length s ≡ bytesLength count
 
 abbrev pub Line : List ℕ → Frame → Type 0
-Line s (Opening settings lengths budget) = length s ≡ 38
+Line s (Opening settings lengths budget) = length s ≡ openingLength
 Line s (Bytes labels space offset count) = BytesLine count s
-Line s Operation = length s ≡ 82
+Line s Operation = length s ≡ operationLength
 Line s Bad = Unit
-
-by-cond : (P : Frame → Type 0) (b : Bool) (x y : Frame) → (b ≡ true → P x) → (b ≡ false → P y) → P (cond b x y)
-by-cond P true x y f g = f refl
-by-cond P false x y f g = g refl
 
 opening-line : (s : List ℕ) → Line s (openingOf s)
 unfolding openingOf
-opening-line s = by-cond (Line s) (eqb (length s) 38) _ _ (λ h. eqb-true _ _ h) (λ h. tt)
+opening-line s = by-cond (Line s) (eqb (length s) openingLength) _ _ (λ h. eqb-true _ _ h) (λ h. tt)
+
+-- what the test of a 02 or 03 line says
+pub record InRange (n : ℕ) : Type 0 where
+  pub least : bytesLength 1 ≤ n
+  pub most : n ≤ bytesLength mostFrameBytes
+  pub even : n % byteDigits ≡ 0
+
+in-range : (n : ℕ) → leb (bytesLength 1) n && leb n (bytesLength mostFrameBytes) && eqb (n % byteDigits) 0 ≡ true → InRange n
+in-range n h =
+    let p = both _ (eqb (n % byteDigits) 0) h in
+    let q = both (leb (bytesLength 1) n) (leb n (bytesLength mostFrameBytes)) (p .0) in
+    record { least = leb-true _ _ (q .0); most = leb-true _ _ (q .1); even = eqb-true _ _ (p .1) }
+
+-- and where the code makes it in two steps
+pub tested : (n : ℕ) {p q : Bool} → p ≡ leb (bytesLength 1) n && leb n (bytesLength mostFrameBytes) → q ≡ p && eqb (n % byteDigits) 0 → q ≡ true → InRange n
+tested n {p} {q} e f t = in-range n (rw (← e) (sym f ∙ t))
 
 bytes-line : (labels : Bool) (s : List ℕ) → Line s (bytesFrameOf labels s)
 unfolding bytesFrameOf
 bytes-line labels s =
-    by-cond (Line s) (ltb (length s) 14) _ _ (λ h. tt)
-    (λ h. by-cond (Line s) (ltb 76 (length s)) _ _ (λ g. tt)
-    (λ g. by-cond (Line s) (eqb (length s % 2) 0) _ _
-    (λ e. let least : 14 ≤ length s = ltb-false _ _ h in
-    let most : length s ≤ 76 = ltb-false _ _ g in
-    let even : length s % 2 ≡ 0 = eqb-true _ _ e in
-    record { some = omega arith; few = omega arith; whole = omega arith })
-    (λ e. tt)))
+    by-cond (Line s) _ _ _
+    (λ h. let r = in-range (length s) h in record { some = omega arith; few = omega arith; whole = omega arith })
+    (λ h. tt)
 
 operation-line : (s : List ℕ) → Line s (operationOf s)
 unfolding operationOf
-operation-line s = by-cond (Line s) (eqb (length s) 82) _ _ (λ h. eqb-true _ _ h) (λ h. tt)
+operation-line s = by-cond (Line s) (eqb (length s) operationLength) _ _ (λ h. eqb-true _ _ h) (λ h. tt)
 
 kind-line : (k : ℕ) (s : List ℕ) → Line s (frameBy k s)
 unfolding frameBy
@@ -64,44 +67,14 @@ kind-line k s =
 
 pub frame-line : (s : List ℕ) → Line s (frameOf s)
 unfolding frameOf
-frame-line s =
-    by-cond (Line s) (ltb (length s) 2) _ _ (λ h. tt)
-    (λ h. by-cond (Line s) (allDigits s) _ _ (λ g. kind-line _ s) (λ g. tt))
+frame-line s = by-cond (Line s) (leb byteDigits (length s) && allDigits s) _ _ (λ h. kind-line _ s) (λ h. tt)
 
-long-line : (s : List ℕ) → 82 < length s → (f : Frame) → Line s f → f ≡ Bad
+long-line : (s : List ℕ) → longestFrame < length s → (f : Frame) → Line s f → f ≡ Bad
 long-line s h (Opening settings lengths budget) l = absurd (omega arith)
 long-line s h (Bytes labels space offset count) l = absurd (omega (arith, l .whole, l .few))
 long-line s h Operation l = absurd (omega arith)
 long-line s h Bad l = refl
 
 -- a line longer than any frame is bad
-pub long-bad : (s : List ℕ) → 82 < length s → frameOf s ≡ Bad
+pub long-bad : (s : List ℕ) → longestFrame < length s → frameOf s ≡ Bad
 long-bad s h = long-line s h (frameOf s) (frame-line s)
-
--- ---- storing f 0, f 1, .. f (n - 1) from a place on, one a turn
-
-pub record Storing (f : ℕ → ℕ) (n at : ℕ) (before now : List ℕ) (i : ℕ) : Type 0 where
-  pub turns : i ≤ n
-  pub kept : length now ≡ length before
-  pub stored : now ≡ paste before at (tabulate n f) i
-
-pub storing-none : (f : ℕ → ℕ) (n at : ℕ) (before : List ℕ) → Storing f n at before before 0
-storing-none f n at before = record { turns = omega arith; kept = refl; stored = paste-zero before at (tabulate n f) }
-
-pub storing-more : {f : ℕ → ℕ} {n at : ℕ} {before now : List ℕ} {i v : ℕ} → Storing f n at before now i → i < n → at + n ≤ length before → v ≡ f i
-    → Storing f n at before (set now (at + i) v) (i + 1)
-storing-more {f} {n} {at} {before} {now} {i} {v} h k r e =
-    let inside : i < length (tabulate n f) = rw tabulate-length k in
-    let store = paste-suc before at (tabulate n f) i 0 (omega arith) inside in
-    record {
-      turns = omega arith;
-      kept = simp length-set (h .kept);
-      stored = rw (h .stored, add-one, e) (rw (tabulate-at n f i k) at store);
-    }
-
-pub storing-all : {f : ℕ → ℕ} {n at : ℕ} {before now : List ℕ} {i : ℕ} → Storing f n at before now i → n ≤ i → at + n ≤ length before
-    → now ≡ sets before at (tabulate n f)
-storing-all {f} {n} {at} {before} {now} {i} h k r =
-    let e : i ≡ length (tabulate n f) = rw tabulate-length (omega (arith, h .turns)) in
-    let fits : at + length (tabulate n f) ≤ length before = rw tabulate-length r in
-    h .stored ∙ ap (paste before at (tabulate n f)) e ∙ rw (take-all (length (tabulate n f)) (tabulate n f) (omega arith)) (sym (sets-eq (tabulate n f) before at fits))

@@ -1,5 +1,5 @@
 -- Laws of hexadecimal text: a turn of each loop, and the range of a number.
-use Prim.Native.Nat.{ℕ, zero, suc, _+_, _*_, _%_, _^_, _≤_, _<_}
+use Prim.Native.Nat.{ℕ, zero, suc, _+_, _-_, _*_, _%_, _^_, _≤_, _<_}
 use mathlib.Core.Path.{_≡_}
 use mathlib.Core.Bool.{true, false}
 use mathlib.Core.List.{List}
@@ -9,7 +9,7 @@ use native.Mathlib.Nat.{pow-suc, pow-le-pow-right, mod-lt}
 use borrow.Author.Tests.{lt-ltb, le-ltb}
 use lib.ListN.{length, getD, drop, drop-of-length-le}
 use lib.Seq.{drop-cons}
-use Rattle.case_hexadecimal.specs.Digits.{digitOf, allDigits, numberAt}
+use Rattle.case_hexadecimal.specs.Digits.{wordDigits, digitOf, allDigits, numberAt}
 
 pub digits-end : (s : List ℕ) (i : ℕ) → length s ≤ i → true ≡ allDigits (drop i s)
 unfolding allDigits
@@ -32,6 +32,6 @@ unfolding numberAt
 number-fits s at zero = omega arith
 number-fits s at (suc k) = rw pow-suc (omega (arith, number-fits s at k, mod-lt (digitOf (getD s (at + k) 0)) {m = 16} (omega arith)))
 
--- a number of fewer than 16 digits has room for one more
-pub number-room : (s : List ℕ) (at k : ℕ) → k < 16 → numberAt s at k < 16 ^ 15
-number-room s at k h = omega (arith, number-fits s at k, pow-le-pow-right {n = 16} (omega arith) {i = k} {j = 15} (omega arith))
+-- a number of fewer digits than a word has room for one more
+pub number-room : (s : List ℕ) (at k : ℕ) → k < wordDigits → numberAt s at k < 16 ^ (wordDigits - 1)
+number-room s at k h = omega (arith, number-fits s at k, pow-le-pow-right {n = 16} (omega arith) {i = k} {j = wordDigits - 1} (omega arith))

@@ -2,13 +2,15 @@
 ghost use mathlib.Core.Path.{_≡_};
 ghost use Prim.Native.Nat.{_+_, _*_, _≤_, _<_};
 ghost use lib.ListN.{length};
-ghost use Rattle.case_hexadecimal.specs.Digits.{digitOf, allDigits, numberAt};
+ghost use Rattle.case_hexadecimal.specs.Digits.{wordDigits, digitOf, allDigits, numberAt};
+use word::bytes::wide;
 
-fn wide(c: u8) -> u64
-    ensures { λ r. ⌜ r ≡ c ⌝ }
-{
-    c as u64
-}
+// The digits of a byte, of a 32-bit number and of a word.
+pub const BYTE_DIGITS: usize = 2;
+
+pub const NUMBER_DIGITS: usize = 8;
+
+pub const WORD_DIGITS: usize = 16;
 
 // The digit that a character stands for, or 16.
 fn digit(c: u8) -> u64
@@ -43,9 +45,9 @@ pub fn all_digits(s: &[u8]) -> bool
     true
 }
 
-// The number that k digits at a place stand for; sixteen digits fill 64 bits.
+// The number that k digits at a place stand for.
 pub fn number(s: &[u8], at: usize, k: usize) -> u64
-    requires { ⌜ (k ≤ 16) × (at + k ≤ length (now s)) ⌝ }
+    requires { ⌜ (k ≤ wordDigits) × (at + k ≤ length (now s)) ⌝ }
     ensures { λ r. ⌜ r ≡ numberAt (now (s .entry)) at k ⌝ }
 {
     let mut n: u64 = 0;
