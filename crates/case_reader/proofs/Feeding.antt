@@ -15,11 +15,12 @@ use Rattle.operation.specs.declared.layout.Settings.{Settings}
 use Rattle.operation.specs.declared.layout.Lengths.{Lengths}
 use Rattle.operation.specs.Layout.{wordsPerOperation, operationCount}
 use Rattle.operation.specs.Rules.{lengthOf}
-use Rattle.case_frame.specs.Frames.{frameOf, bytesOn, wordsOn}
+use Rattle.case_frame.specs.Frames.{operationLength, frameOf, bytesOn, wordsOn}
 use Rattle.case_frame.specs.declared.Frame.{Frame}
 use Rattle.case_frame.specs.declared.Frame.the-variants.{Opening, Bytes, Operation}
 use Rattle.case_frame.proofs.Laws.{BytesLine, frame-line}
-use Rattle.case_reader.specs.Case.{mostCaseOperations, mostCaseBytes, Case, Progress, lengthsFit, opening, opened, inSpace, withMemory, withLabels, withOperation, stored, extended, afterLine}
+use Rattle.case_reader.specs.Limits.{mostCaseOperations, mostCaseBytes, spacesRoom}
+use Rattle.case_reader.specs.Case.{Case, Progress, lengthsFit, opening, opened, inSpace, withMemory, withLabels, withOperation, stored, extended, afterLine}
 use Rattle.case_reader.specs.Buffers.{memoryIn, caseIn, progressIn, Fits, Sound, Fed}
 use Rattle.case_reader.specs.declared.line.Header.{Header}
 use Rattle.case_reader.specs.declared.line.Stage.{Stage}
@@ -91,7 +92,7 @@ known l fits space offset count some h = by (eqb space 2) (eqb space 3) (eqb spa
     by false false false e2 e3 e4 k = absurd (let z : ⊥ = omega arith in z)
 
 -- and so they have room in the buffer
-pub in-buffer : {space offset count place room : ℕ} → Inside space offset count → place ≡ (space - 2) * mostCaseBytes + offset → room ≡ 3 * mostCaseBytes → place + count ≤ room
+pub in-buffer : {space offset count place room : ℕ} → Inside space offset count → place ≡ (space - 2) * mostCaseBytes + offset → room ≡ spacesRoom → place + count ≤ room
 in-buffer i p r = omega (arith, i .low, i .high, i .most, p, r)
 
 -- offset + count within an extent, tested without a sum
@@ -125,7 +126,7 @@ module _ (n : ℕ) (s : List ℕ) {f : Frame} (e : f ≡ frameOf s) (d : Header)
     pub bytes-line : BytesLine count s
     bytes-line = rw (sym e ∙ k) at (frame-line s)
 
-    extent : (b : List ℕ) → length b ≡ 3 * mostCaseBytes → inSpace (memoryIn (d .lengths) b) space offset count ≡ leb (offset + count) (lengthOf (d .lengths) space)
+    extent : (b : List ℕ) → length b ≡ spacesRoom → inSpace (memoryIn (d .lengths) b) space offset count ≡ leb (offset + count) (lengthOf (d .lengths) space)
     unfolding inSpace
     extent b r = ap (leb (offset + count)) (space-length (d .lengths) (h .stageFits .lengths) b r space)
 
@@ -152,7 +153,7 @@ module _ (n : ℕ) (s : List ℕ) {f : Frame} (e : f ≡ frameOf s) (d : Header)
       fits-in : offset + length (bytesOn count s) ≤ lengthOf (d .lengths) space
       fits-in = rw bytes-count within
 
-      storing : (b : List ℕ) → length b ≡ 3 * mostCaseBytes → memoryIn (d .lengths) (sets b ((space - 2) * mostCaseBytes + offset) (bytesOn count s))
+      storing : (b : List ℕ) → length b ≡ spacesRoom → memoryIn (d .lengths) (sets b ((space - 2) * mostCaseBytes + offset) (bytesOn count s))
           ≡ stored (memoryIn (d .lengths) b) space offset (bytesOn count s)
       storing b r = memory-stored (d .lengths) (h .stageFits .lengths) b r space offset (bytesOn count s) (inside .low) (inside .high) fits-in
 
@@ -188,7 +189,7 @@ module _ (n : ℕ) (s : List ℕ) {f : Frame} (e : f ≡ frameOf s) (d : Header)
 
   module _ (k : f ≡ Operation) where
     -- what is known of such a line
-    pub operation-line : length s ≡ 82
+    pub operation-line : length s ≡ operationLength
     operation-line = rw (sym e ∙ k) at (frame-line s)
 
     counted : operationCount (take (wordsPerOperation * d .operations) ws) ≡ d .operations

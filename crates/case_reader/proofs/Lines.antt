@@ -12,10 +12,11 @@ use lib.Seq.{take-all, take-nil, take-append-le, length-take-le, take-suc-set, t
 use Rattle.case_frame.specs.Frames.{frameOf}
 use Rattle.case_frame.specs.declared.Frame.the-variants.{Bad}
 use Rattle.case_frame.proofs.Laws.{long-bad}
+use Rattle.case_reader.specs.Limits.{lineRoom}
 use Rattle.case_reader.specs.Case.{Progress, extended, afterLine}
 use Rattle.case_reader.specs.Lines.{newline, linesOf, restOf, LinesRead, nextNumber, noLine, lineRead, linesRead}
 use Rattle.case_reader.specs.Buffers.{progressIn, Fed}
-use Rattle.case_reader.specs.Stream.{lineRoom, ReaderFits, HasRead, Advanced}
+use Rattle.case_reader.specs.Stream.{ReaderFits, HasRead, Advanced}
 use Rattle.case_reader.specs.declared.line.Stage.{Stage}
 use Rattle.case_reader.specs.declared.stream.Reader.{Reader}
 

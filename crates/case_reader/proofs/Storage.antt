@@ -11,7 +11,8 @@ use lib.Seq.{sets, take-set-le, take-set-lt, drop-set-lt, drop-set-add, length-t
 use Rattle.operation.specs.declared.layout.Lengths.{Lengths}
 use Rattle.operation.specs.Rules.{lengthOf}
 use Rattle.machine.specs.Memory.{Memory, spaces, spaceOf, withSpace}
-use Rattle.case_reader.specs.Case.{mostCaseBytes, zeros, stored}
+use Rattle.case_reader.specs.Limits.{mostCaseBytes, spacesRoom}
+use Rattle.case_reader.specs.Case.{zeros, stored}
 use Rattle.case_reader.specs.Buffers.{memoryIn, Zeros, Fits}
 
 -- ---- stores and parts of a list
@@ -119,7 +120,7 @@ module _ (room : ℕ) (l : Lengths) (u : l .unique ≤ room) (g : l .register �
 
 -- ---- with room for the largest space
 
-module _ (l : Lengths) (fits : Fits l) (b : List ℕ) (whole : length b ≡ 3 * mostCaseBytes) where
+module _ (l : Lengths) (fits : Fits l) (b : List ℕ) (whole : length b ≡ spacesRoom) where
   pub memory-zeros : Zeros b → memoryIn l b ≡ zeros l
   unfolding memoryIn
   memory-zeros z = zeros-by mostCaseBytes l (fits .unique) (fits .register) (fits .ram) b whole z

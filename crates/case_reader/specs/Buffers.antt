@@ -6,7 +6,8 @@ use lib.ListN.{length, take, drop, getD}
 use Rattle.operation.specs.declared.layout.Lengths.{Lengths}
 use Rattle.operation.specs.Layout.{wordsPerOperation}
 use Rattle.machine.specs.Memory.{Memory, spaces}
-use Rattle.case_reader.specs.Case.{mostCaseOperations, mostCaseBytes, Case, Progress, afterLine}
+use Rattle.case_reader.specs.Limits.{mostCaseOperations, mostCaseBytes, spacesRoom, wordsRoom}
+use Rattle.case_reader.specs.Case.{Case, Progress, afterLine}
 use Rattle.case_reader.specs.declared.line.Header.{Header}
 use Rattle.case_reader.specs.declared.line.Stage.{Stage}
 use Rattle.case_reader.specs.declared.line.Stage.the-variants.{Nothing, Reading, BadLine}
@@ -53,9 +54,9 @@ StageFits (Reading h) m ls = HeaderFits h
 StageFits (BadLine n) m ls = Unit
 
 pub record Sound (stage : Stage) (memory labels words : List ℕ) : Type 0 where
-  pub memoryRoom : length memory ≡ 3 * mostCaseBytes
-  pub labelRoom : length labels ≡ 3 * mostCaseBytes
-  pub wordRoom : length words ≡ wordsPerOperation * mostCaseOperations
+  pub memoryRoom : length memory ≡ spacesRoom
+  pub labelRoom : length labels ≡ spacesRoom
+  pub wordRoom : length words ≡ wordsRoom
   pub stageFits : StageFits stage memory labels
 
 -- A line takes the buffers to what the definition says.

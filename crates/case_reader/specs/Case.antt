@@ -9,16 +9,10 @@ use Rattle.operation.specs.declared.layout.Settings.{Settings}
 use Rattle.operation.specs.declared.layout.Lengths.{Lengths}
 use Rattle.operation.specs.Layout.{operationCount}
 use Rattle.machine.specs.Memory.{Memory, spaces, spaceOf, withSpace}
+use Rattle.case_reader.specs.Limits.{mostCaseOperations, mostCaseBytes}
 use Rattle.case_frame.specs.Frames.{frameOf, bytesOn, wordsOn}
 use Rattle.case_frame.specs.declared.Frame.{Frame}
 use Rattle.case_frame.specs.declared.Frame.the-variants.{Opening, Bytes, Operation, Bad}
-
--- At most 512 operations and 4,096 bytes a space: less than a run takes.
-abbrev pub mostCaseOperations : ℕ
-mostCaseOperations = 512
-
-abbrev pub mostCaseBytes : ℕ
-mostCaseBytes = 4096
 
 -- What a labelled run is to be given.
 pub record Case : Type 0 where

@@ -1,3 +1,4 @@
+pub mod Limits
 pub mod Case
 pub mod Buffers
 pub mod Lines

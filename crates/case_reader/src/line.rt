@@ -4,20 +4,24 @@ ghost use mathlib.Core.List.{List};
 ghost use Prim.Native.Nat.{ℕ, _+_, _*_, _-_, _≤_};
 ghost use lib.Dec.{leb};
 ghost use Rattle.operation.specs.Rules.{lengthOf};
-ghost use Rattle.case_reader.specs.Case.{mostCaseBytes, lengthsFit};
+ghost use Rattle.case_reader.specs.Case.{lengthsFit};
+ghost use Rattle.case_reader.specs.Limits.{mostCaseBytes};
 ghost use Rattle.case_reader.specs.Buffers.{Sound, Fed};
+use crate::limits::MOST_CASE_BYTES;
+use crate::limits::MOST_CASE_OPERATIONS;
 use case_frame::Frame;
 use case_frame::frame_of;
 use case_frame::put_bytes;
 use case_frame::put_words;
+use integer::boolean::both;
 use operation::layout::Lengths;
 use operation::layout::Settings;
 use operation::layout::WORDS_PER_OPERATION;
 use operation::rules::length_of;
+use word::size::within;
 
-const MOST_OPERATIONS: usize = 512;
-
-const MOST_BYTES: u64 = 4096;
+// As a length of a space.
+const MOST_LENGTH: u64 = MOST_CASE_BYTES as u64;
 
 // What the lines of a case say beside its bytes, labels and words.
 pub struct Header {
@@ -87,13 +91,11 @@ fn open(number: u64, s: &[u8]) -> Stage
 fn lengths_fit(lengths: Lengths) -> bool
     ensures { λ r. ⌜ r ≡ lengthsFit lengths ⌝ }
 {
-    if MOST_BYTES < lengths.unique {
-        return false;
-    }
-    if MOST_BYTES < lengths.register {
-        return false;
-    }
-    lengths.ram <= MOST_BYTES
+    let two = both(
+        lengths.unique <= MOST_LENGTH,
+        lengths.register <= MOST_LENGTH,
+    );
+    both(two, lengths.ram <= MOST_LENGTH)
 }
 
 // A line after the first.
@@ -134,7 +136,7 @@ fn continue_with(
             Stage::Reading(header)
         }
         Frame::Operation => {
-            if header.operations == MOST_OPERATIONS {
+            if header.operations == MOST_CASE_OPERATIONS {
                 return Stage::BadLine(number);
             }
             put_words(s, words, WORDS_PER_OPERATION * header.operations);
@@ -155,11 +157,7 @@ fn continue_with(
 fn in_space(lengths: Lengths, space: u64, offset: u64, count: usize) -> bool
     ensures { λ r. ⌜ r ≡ leb (offset + count) (lengthOf lengths space) ⌝ }
 {
-    let extent = length_of(lengths, space);
-    if extent < offset {
-        return false;
-    }
-    count as u64 <= extent - offset
+    within(offset, count as u64, length_of(lengths, space))
 }
 
 // Where an offset of a space lies in the buffer of three spaces.
@@ -167,5 +165,5 @@ fn place_of(space: u64, offset: u64) -> usize
     requires { ⌜ (2 ≤ space) × (space ≤ 4) × (offset ≤ mostCaseBytes) ⌝ }
     ensures { λ r. ⌜ r ≡ (space - 2) * mostCaseBytes + offset ⌝ }
 {
-    ((space - 2) * MOST_BYTES + offset) as usize
+    ((space - 2) * MOST_LENGTH + offset) as usize
 }

@@ -3,7 +3,7 @@ ghost use mathlib.Core.Path.{_≡_};
 ghost use mathlib.Core.List.{[], _∷_};
 ghost use Rattle.case_reader.specs.Lines.{nextNumber};
 ghost use Rattle.case_reader.specs.Stream.{ReaderFits, Started, Advanced};
-use crate::buffers::LINE_ROOM;
+use crate::limits::LINE_ROOM;
 use crate::line::Stage;
 use crate::line::feed;
 
@@ -14,7 +14,8 @@ pub struct Reader {
     pub stage: Stage,
 }
 
-const NEWLINE: u8 = 10;
+// Ends a line.
+pub const NEWLINE: u8 = 10;
 
 // A reader that has read nothing.
 pub fn start() -> Reader

@@ -5,7 +5,7 @@ use Prim.Native.Nat.{ℕ}
 use lib.Seq.{take-nil}
 use Rattle.case_reader.specs.Lines.{noLine, linesRead, linesOf, restOf}
 use Rattle.case_reader.specs.Buffers.{progressIn}
-use Rattle.case_reader.specs.Stream.{lineRoom}
+use Rattle.case_reader.specs.Limits.{lineRoom}
 use Rattle.case_reader.proofs.stream.start.Statement.{statement}
 use Rattle.case_reader.proofs.stream.start.Tie as tie
 
