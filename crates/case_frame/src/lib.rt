@@ -35,7 +35,7 @@ const SPACE_PLACE: usize = BYTE_DIGITS;
 
 const OFFSET_PLACE: usize = SPACE_PLACE + BYTE_DIGITS;
 
-const BYTES_PLACE: usize = OFFSET_PLACE + NUMBER_DIGITS;
+pub const BYTES_PLACE: usize = OFFSET_PLACE + NUMBER_DIGITS;
 
 const MOST_FRAME_BYTES: usize = 32;
 

@@ -7,10 +7,6 @@ use Rattle.machine.specs.Memory.{Memory}
 use Rattle.machine.specs.Calls.{Outcome}
 use Rattle.case_printing.specs.Text.{reportText, logText, spaceLines}
 
--- A log of 1,024 words.
-abbrev pub logRoom : ℕ
-logRoom = 1024
-
 -- Spaces 2, 3, 4 as lines of a kind: 2 for bytes, 3 for labels.
 unfoldable pub memoryText : (kind : ℕ) → Memory → List ℕ
 memoryText kind m = spaceLines kind 2 (m .unique) ++ spaceLines kind 3 (m .register) ++ spaceLines kind 4 (m .ram)

@@ -1,19 +1,16 @@
--- A bound on what a text prints, and what the functions ask of their buffers.
-use Prim.Native.Nat.{ℕ, _+_, _*_, _≤_}
-use lib.ListN.{length}
-use Rattle.machine.specs.Memory.{Memory}
-use Rattle.case_reader.specs.Case.{mostCaseBytes}
-use Rattle.case_printing.specs.Outcome.{logRoom}
+-- A bound on what a text prints.
+use Prim.Native.Nat.{ℕ, _+_, _*_}
+use Rattle.case_reader.specs.Limits.{mostCaseBytes, logWords}
+use Rattle.case_printing.specs.Text.{reportLength, wordLineLength, dumpLength, bytesPerLine, lineCount}
 
--- 256 lines a space, of at most 45 bytes.
-abbrev pub memoryRoom : ℕ
-memoryRoom = 3 * 256 * 45
+-- The most characters of a space.
+abbrev pub spaceTextRoom : ℕ
+spaceTextRoom = dumpLength bytesPerLine * lineCount mostCaseBytes
 
--- A report of at most 105 bytes, 17 bytes a log word, memory and labels.
+-- The most characters of memory, or of its labels: three spaces.
+abbrev pub memoryTextRoom : ℕ
+memoryTextRoom = 3 * spaceTextRoom
+
+-- The most characters of an output: a report, the log, memory and labels.
 abbrev pub outputRoom : ℕ
-outputRoom = 105 + 17 * logRoom + 2 * memoryRoom
-
-pub record Small (m : Memory) : Type 0 where
-  pub unique : length (m .unique) ≤ mostCaseBytes
-  pub register : length (m .register) ≤ mostCaseBytes
-  pub ram : length (m .ram) ≤ mostCaseBytes
+outputRoom = reportLength + wordLineLength * logWords + 2 * memoryTextRoom

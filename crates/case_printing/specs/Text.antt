@@ -4,10 +4,11 @@ use mathlib.Core.Bool.{cond}
 use mathlib.Core.List.{List, [], _∷_, _++_}
 use lib.Dec.{ltb}
 use lib.ListN.{length, getD, take, drop}
+use Rattle.case_hexadecimal.specs.Digits.{byteDigits, numberDigits, wordDigits}
+use Rattle.case_frame.specs.Frames.{bytesLength}
+use Rattle.case_reader.specs.Lines.{newline}
 
-abbrev pub newline : ℕ
-newline = 10
-
+-- The code of the character between two numbers of a report.
 abbrev pub blank : ℕ
 blank = 32
 
@@ -38,13 +39,25 @@ mostDigits = 20
 unfoldable pub fieldText : (n mark : ℕ) → List ℕ
 fieldText n mark = decimalText mostDigits n ++ (mark ∷ [])
 
+-- The most characters of such a number.
+abbrev pub fieldLength : ℕ
+fieldLength = mostDigits + 1
+
 -- A report: five numbers in decimal, with a space between two, and a newline.
 unfoldable pub reportText : (a b c d e : ℕ) → List ℕ
 reportText a b c d e = fieldText a blank ++ fieldText b blank ++ fieldText c blank ++ fieldText d blank ++ fieldText e newline
 
+-- The most characters of a report.
+abbrev pub reportLength : ℕ
+reportLength = 5 * fieldLength
+
 -- A log word: 16 digits on a line.
 unfoldable pub wordLine : ℕ → List ℕ
-wordLine w = hexText 16 w ++ (newline ∷ [])
+wordLine w = hexText wordDigits w ++ (newline ∷ [])
+
+-- The characters of such a line.
+abbrev pub wordLineLength : ℕ
+wordLineLength = wordDigits + 1
 
 -- A log: the lines of its words.
 unfoldable pub logText : List ℕ → List ℕ
@@ -52,16 +65,21 @@ logText words = joined (length words) (λ i. wordLine (getD words i 0))
 
 -- Bytes: two digits each.
 unfoldable pub bytesText : List ℕ → List ℕ
-bytesText s = joined (length s) (λ i. hexText 2 (getD s i 0))
+bytesText s = joined (length s) (λ i. hexText byteDigits (getD s i 0))
 
 -- A line of a dump: its kind (02 for bytes, 03 for labels), the space, the offset of its first byte, and the bytes.
 unfoldable pub dumpLine : (kind space offset : ℕ) → List ℕ → List ℕ
-dumpLine kind space offset s = hexText 2 kind ++ hexText 2 space ++ hexText 8 offset ++ bytesText s ++ (newline ∷ [])
+dumpLine kind space offset s = hexText byteDigits kind ++ hexText byteDigits space ++ hexText numberDigits offset ++ bytesText s ++ (newline ∷ [])
 
+-- The characters of such a line with n bytes: a frame and a newline.
+abbrev pub dumpLength : (n : ℕ) → ℕ
+dumpLength n = bytesLength n + 1
+
+-- The bytes of a space that one line shows; the last may show fewer.
 abbrev pub bytesPerLine : ℕ
 bytesPerLine = 16
 
--- The lines of a space of n bytes; the last may hold fewer.
+-- The lines of a space of n bytes.
 abbrev pub lineCount : ℕ → ℕ
 lineCount n = (n + (bytesPerLine - 1)) / bytesPerLine
 

@@ -1,15 +1,31 @@
 // What a run leaves, as text.
 ghost use Prim.Native.Nat.{_+_, _≤_};
 ghost use lib.ListN.{length};
-ghost use Rattle.machine.specs.Memory.{spaces};
+ghost use Rattle.machine.specs.Memory.{spaces, lengthsOf};
 ghost use Rattle.machine.specs.Calls.{labelledOutcome};
 ghost use Rattle.case_printing.specs.Appended.{Appended};
-ghost use Rattle.case_printing.specs.Outcome.{logRoom, memoryText, outcomeText};
-ghost use Rattle.case_printing.specs.Room.{memoryRoom, outputRoom, Small};
+ghost use Rattle.case_printing.specs.Outcome.{memoryText, outcomeText};
+ghost use Rattle.case_reader.specs.Limits.{logWords};
+ghost use Rattle.case_reader.specs.Buffers.{Fits};
+ghost use Rattle.case_printing.specs.Room.{memoryTextRoom, outputRoom};
+use crate::text::BYTES_PER_LINE;
+use crate::text::DUMP_LENGTH;
+use crate::text::REPORT_LENGTH;
+use crate::text::WORD_LINE_LENGTH;
 use crate::text::put_log;
 use crate::text::put_report;
 use crate::text::put_space;
+use case_reader::limits::LOG_WORDS;
+use case_reader::limits::MOST_CASE_BYTES;
 use operation::report::Report;
+
+const SPACE_TEXT_ROOM: usize = DUMP_LENGTH
+    * ((MOST_CASE_BYTES + (BYTES_PER_LINE - 1)) / BYTES_PER_LINE);
+
+// A bound on every output: a report, the log, memory and labels.
+pub const OUTPUT_ROOM: usize = REPORT_LENGTH
+    + WORD_LINE_LENGTH * LOG_WORDS
+    + 2 * (3 * SPACE_TEXT_ROOM);
 
 // The report, the log words written, the bytes of the spaces as 02 lines, and their labels as 03 lines.
 pub fn put_outcome(
@@ -24,9 +40,9 @@ pub fn put_outcome(
     ram_labels: &[u8],
 ) -> usize
     requires { ⌜ report .logged ≤ length (now log) ⌝ }
-    requires { ⌜ length (now log) ≤ logRoom ⌝ }
-    requires { ⌜ Small (spaces (now unique) (now register) (now ram)) ⌝ }
-    requires { ⌜ Small (spaces (now «unique_labels») (now «register_labels») (now «ram_labels»)) ⌝ }
+    requires { ⌜ length (now log) ≤ logWords ⌝ }
+    requires { ⌜ Fits (lengthsOf (spaces (now unique) (now register) (now ram))) ⌝ }
+    requires { ⌜ Fits (lengthsOf (spaces (now «unique_labels») (now «register_labels») (now «ram_labels»))) ⌝ }
     requires { ⌜ outputRoom ≤ length (now out) ⌝ }
     ensures { λ r. ⌜ Appended 0 (now (out .entry)) (outcomeText (labelledOutcome report
         (spaces (now (unique .entry)) (now (register .entry)) (now (ram .entry)))
@@ -56,8 +72,8 @@ fn put_memory(
     register: &[u8],
     ram: &[u8],
 ) -> usize
-    requires { ⌜ Small (spaces (now unique) (now register) (now ram)) ⌝ }
-    requires { ⌜ at + memoryRoom ≤ length (now out) ⌝ }
+    requires { ⌜ Fits (lengthsOf (spaces (now unique) (now register) (now ram))) ⌝ }
+    requires { ⌜ at + memoryTextRoom ≤ length (now out) ⌝ }
     ensures { λ r. ⌜ Appended at (now (out .entry)) (memoryText kind (spaces (now (unique .entry)) (now (register .entry)) (now (ram .entry)))) r (now (out .exit)) ⌝ }
 {
     let p = put_space(out, at, kind, 2, unique);

@@ -2,30 +2,46 @@
 ghost use mathlib.Core.Path.{_≡_};
 ghost use Prim.Native.Nat.{_+_, _*_, _≤_, _<_, min};
 ghost use lib.ListN.{length};
-ghost use Rattle.case_printing.specs.Text.{digitCode, hexText, decimalText, fieldText, reportText, wordLine, logText, bytesText, dumpLine, lineCount, spaceLines};
+ghost use Rattle.case_printing.specs.Text.{digitCode, hexText, decimalText, fieldText, fieldLength, reportText, reportLength, wordLine, wordLineLength, logText, bytesText, dumpLine, dumpLength, bytesPerLine, lineCount, spaceLines};
 ghost use Rattle.case_printing.specs.Appended.{Appended};
+ghost use Rattle.case_reader.specs.Limits.{mostCaseBytes};
+use case_frame::BYTES_PLACE;
+use case_hexadecimal::BYTE_DIGITS;
+use case_hexadecimal::NUMBER_DIGITS;
+use case_hexadecimal::WORD_DIGITS;
+use case_reader::stream::NEWLINE;
+use word::bytes::wide;
 
 // The most decimal digits of a 64-bit number.
 const MOST_DIGITS: usize = 20;
 
-// The bytes of a space that one line shows.
-const BYTES_PER_LINE: usize = 16;
+const FIELD_LENGTH: usize = MOST_DIGITS + 1;
 
-// A report on one line: five numbers, each of at most 20 digits and the character behind it.
+// The most characters of a report, of the line of a log word, and of a line of bytes.
+pub(crate) const REPORT_LENGTH: usize = 5 * FIELD_LENGTH;
+
+pub(crate) const WORD_LINE_LENGTH: usize = WORD_DIGITS + 1;
+
+pub(crate) const DUMP_LENGTH: usize = BYTES_PLACE + BYTE_DIGITS * BYTES_PER_LINE + 1;
+
+// The bytes of a space that one line shows.
+pub(crate) const BYTES_PER_LINE: usize = 16;
+
+// A report on one line: five numbers, each with the character behind it.
 pub fn put_report(out: &mut [u8], at: usize, a: u64, b: u64, c: u64, d: u64, e: u64) -> usize
-    requires { ⌜ at + 105 ≤ length (now out) ⌝ }
+    requires { ⌜ at + reportLength ≤ length (now out) ⌝ }
     ensures { λ r. ⌜ Appended at (now (out .entry)) (reportText a b c d e) r (now (out .exit)) ⌝ }
 {
     let p = put_field(out, at, a, b' ');
     let q = put_field(out, p, b, b' ');
     let r = put_field(out, q, c, b' ');
     let s = put_field(out, r, d, b' ');
-    put_field(out, s, e, b'\n')
+    put_field(out, s, e, NEWLINE)
 }
 
 // A log, one word on a line.
 pub fn put_log(out: &mut [u8], at: usize, words: &[u64]) -> usize
-    requires { ⌜ at + 17 * length (now words) ≤ length (now out) ⌝ }
+    requires { ⌜ at + wordLineLength * length (now words) ≤ length (now out) ⌝ }
     ensures { λ r. ⌜ Appended at (now (out .entry)) (logText (now (words .entry))) r (now (out .exit)) ⌝ }
 {
     let mut p = at;
@@ -37,9 +53,9 @@ pub fn put_log(out: &mut [u8], at: usize, words: &[u64]) -> usize
     p
 }
 
-// All bytes of a space. A line has 13 characters beside its bytes, so at most 45.
+// All bytes of a space, line by line.
 pub fn put_space(out: &mut [u8], at: usize, kind: u64, space: u64, s: &[u8]) -> usize
-    requires { ⌜ (length (now s) ≤ 65536) × (at + 45 * lineCount (length (now s)) ≤ length (now out)) ⌝ }
+    requires { ⌜ (length (now s) ≤ mostCaseBytes) × (at + dumpLength bytesPerLine * lineCount (length (now s)) ≤ length (now out)) ⌝ }
     ensures { λ r. ⌜ Appended at (now (out .entry)) (spaceLines kind space (now (s .entry))) r (now (out .exit)) ⌝ }
 {
     let lines = (s.len() + (BYTES_PER_LINE - 1)) / BYTES_PER_LINE;
@@ -55,7 +71,7 @@ pub fn put_space(out: &mut [u8], at: usize, kind: u64, space: u64, s: &[u8]) -> 
 }
 
 fn put_field(out: &mut [u8], at: usize, n: u64, mark: u8) -> usize
-    requires { ⌜ at + 21 ≤ length (now out) ⌝ }
+    requires { ⌜ at + fieldLength ≤ length (now out) ⌝ }
     ensures { λ r. ⌜ Appended at (now (out .entry)) (fieldText n mark) r (now (out .exit)) ⌝ }
 {
     let p = put_decimal(out, at, n, MOST_DIGITS);
@@ -64,23 +80,23 @@ fn put_field(out: &mut [u8], at: usize, n: u64, mark: u8) -> usize
 }
 
 fn put_word(out: &mut [u8], at: usize, w: u64) -> usize
-    requires { ⌜ at + 17 ≤ length (now out) ⌝ }
+    requires { ⌜ at + wordLineLength ≤ length (now out) ⌝ }
     ensures { λ r. ⌜ Appended at (now (out .entry)) (wordLine w) r (now (out .exit)) ⌝ }
 {
-    let p = put_hex(out, at, w, 16);
-    out[p] = b'\n';
+    let p = put_hex(out, at, w, WORD_DIGITS);
+    out[p] = NEWLINE;
     p + 1
 }
 
 fn put_line(out: &mut [u8], at: usize, kind: u64, space: u64, offset: u64, s: &[u8]) -> usize
-    requires { ⌜ at + 13 + 2 * length (now s) ≤ length (now out) ⌝ }
+    requires { ⌜ at + dumpLength (length (now s)) ≤ length (now out) ⌝ }
     ensures { λ r. ⌜ Appended at (now (out .entry)) (dumpLine kind space offset (now (s .entry))) r (now (out .exit)) ⌝ }
 {
-    let a = put_hex(out, at, kind, 2);
-    let b = put_hex(out, a, space, 2);
-    let c = put_hex(out, b, offset, 8);
+    let a = put_hex(out, at, kind, BYTE_DIGITS);
+    let b = put_hex(out, a, space, BYTE_DIGITS);
+    let c = put_hex(out, b, offset, NUMBER_DIGITS);
     let p = put_bytes(out, c, s);
-    out[p] = b'\n';
+    out[p] = NEWLINE;
     p + 1
 }
 
@@ -91,7 +107,7 @@ fn put_bytes(out: &mut [u8], at: usize, s: &[u8]) -> usize
     let mut p = at;
     let mut i = 0;
     while i < s.len() {
-        p = put_hex(out, p, wide(s[i]), 2);
+        p = put_hex(out, p, wide(s[i]), BYTE_DIGITS);
         i += 1;
     }
     p
@@ -141,11 +157,4 @@ fn least(a: usize, b: usize) -> usize
     ensures { λ r. ⌜ r ≡ min a b ⌝ }
 {
     if a < b { a } else { b }
-}
-
-// As a function, the cast asks for no proof where a byte of a slice is read.
-fn wide(b: u8) -> u64
-    ensures { λ r. ⌜ r ≡ b ⌝ }
-{
-    b as u64
 }

@@ -5,6 +5,7 @@ use mathlib.Core.List.{List}
 use native.Mathlib.Omega.{arith}
 use borrow.Author.Needs.{needs}
 use lib.ListN.{length, getD}
+use Rattle.case_hexadecimal.specs.Digits.{byteDigits}
 use Rattle.case_printing.specs.Text.{joined, hexText, bytesText}
 use Rattle.case_printing.specs.Appended.{Appended}
 use Rattle.case_printing.proofs.Appending.{joined-none, joined-then}
@@ -13,7 +14,7 @@ use Rattle.case_printing.proofs.text.put_bytes.Statement.{statement}
 use Rattle.case_printing.proofs.text.put_bytes.Tie as tie
 
 abbrev digits : List ℕ → ℕ → List ℕ
-digits s i = hexText 2 (getD s i 0)
+digits s i = hexText byteDigits (getD s i 0)
 
 abbrev Inv-loop : tie.InvT-loop
 Inv-loop out₀ at s p₀ i₀ out p i = (i ≤ length s) × Appended at out₀ (joined i (digits s)) p out
@@ -34,7 +35,7 @@ put-hex-requires : tie.Need-put-hex-requires Inv-loop μ-loop
 put-hex-requires c κs =
     let l = c .before .before .before .before .loop in
     let s = c .before .before .before .before .before .before .before .args .s .now in
-    let so-far = past-joined 2 (l .i) (digits s) (λ k. omega (arith, length-hex 2 (getD s k 0))) (l .inv .1) in
+    let so-far = past-joined byteDigits (l .i) (digits s) (λ k. omega (arith, length-hex byteDigits (getD s k 0))) (l .inv .1) in
     omega (arith, so-far, c .before .before .before .before .before .before .before .pre)
 
 add-i : tie.Need-add-i Inv-loop μ-loop

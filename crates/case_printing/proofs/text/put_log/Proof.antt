@@ -5,7 +5,7 @@ use mathlib.Core.List.{List}
 use native.Mathlib.Omega.{arith}
 use borrow.Author.Needs.{needs}
 use lib.ListN.{length, getD}
-use Rattle.case_printing.specs.Text.{joined, wordLine, logText}
+use Rattle.case_printing.specs.Text.{joined, wordLine, wordLineLength, logText}
 use Rattle.case_printing.specs.Appended.{Appended}
 use Rattle.case_printing.proofs.Appending.{joined-none, joined-then}
 use Rattle.case_printing.proofs.Lengths.{length-word, past-joined}
@@ -34,7 +34,7 @@ put-word-requires : tie.Need-put-word-requires Inv-loop μ-loop
 put-word-requires c κs =
     let l = c .before .before .before .loop in
     let words = c .before .before .before .before .before .before .args .words .now in
-    let so-far = past-joined 17 (l .i) (line words) (λ k. omega (arith, length-word (getD words k 0))) (l .inv .1) in
+    let so-far = past-joined wordLineLength (l .i) (line words) (λ k. omega (arith, length-word (getD words k 0))) (l .inv .1) in
     omega (arith, so-far, c .before .before .before .before .before .before .pre)
 
 add-i : tie.Need-add-i Inv-loop μ-loop

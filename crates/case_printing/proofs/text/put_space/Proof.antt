@@ -5,7 +5,7 @@ use mathlib.Core.List.{List}
 use native.Mathlib.Omega.{arith}
 use borrow.Author.Needs.{needs}
 use lib.ListN.{length}
-use Rattle.case_printing.specs.Text.{joined, dumpLine, bytesPerLine, lineCount, lineBytes, spaceLines}
+use Rattle.case_printing.specs.Text.{joined, dumpLine, dumpLength, bytesPerLine, lineCount, lineBytes, spaceLines}
 use Rattle.case_printing.specs.Appended.{Appended}
 use Rattle.case_printing.proofs.Appending.{joined-none, joined-then}
 use Rattle.case_printing.proofs.Lengths.{length-line-bytes, length-line-most, past-joined}
@@ -57,7 +57,7 @@ put-line-requires c κs =
     let s = a .s .now in
     let l = c .before .before .before .before .loop in
     let part = ap length (line-part s (l .k) (c .before .before .least .result) (c .before .before .least .ensures)) in
-    let so-far = past-joined 45 (l .k) (line (a .kind) (a .space) s) (length-line-most (a .kind) (a .space) s) (l .inv .2) in
+    let so-far = past-joined (dumpLength bytesPerLine) (l .k) (line (a .kind) (a .space) s) (length-line-most (a .kind) (a .space) s) (l .inv .2) in
     omega (arith, part, length-line-bytes s (l .k), so-far, start .pre .1)
 
 add-k : tie.Need-add-k Inv-loop μ-loop
