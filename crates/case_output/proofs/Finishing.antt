@@ -8,7 +8,8 @@ use Rattle.case_printing.specs.Appended.{Appended}
 use Rattle.case_reader.specs.Case.{Case, Progress}
 use Rattle.case_reader.specs.Lines.{restOf, nextNumber}
 use Rattle.case_reader.specs.Buffers.{caseIn, progressIn}
-use Rattle.case_reader.specs.Stream.{lineRoom, ReaderFits, HasRead}
+use Rattle.case_reader.specs.Limits.{lineRoom}
+use Rattle.case_reader.specs.Stream.{ReaderFits, HasRead}
 use Rattle.case_reader.specs.declared.line.Header.{Header}
 use Rattle.case_reader.specs.declared.line.Stage.the-variants.{Nothing, Reading, BadLine}
 use Rattle.case_reader.specs.declared.stream.Reader.{Reader}

@@ -8,14 +8,12 @@ ghost use Rattle.case_reader.specs.Stream.{ReaderFits, HasRead};
 ghost use Rattle.case_printing.specs.Room.{outputRoom};
 ghost use Rattle.case_printing.specs.Appended.{Appended};
 ghost use Rattle.case_output.specs.Output.{badText, outputOf};
+use case_printing::outcome::OUTPUT_ROOM;
 use case_printing::text::put_report;
 use case_reader::line::Stage;
 use case_reader::stream::Reader;
 use case_reader::stream::next_number;
 use case_spaces::run_case;
-
-// A bound on every output.
-pub const OUTPUT_ROOM: usize = 86633;
 
 // A buffer for any output.
 pub fn room() -> [u8; OUTPUT_ROOM]

@@ -10,7 +10,7 @@ use lib.ListN.{length, take, drop, set, replicate, length-replicate, getD-replic
 use lib.Seq.{sets, take-set-le, take-set-lt, drop-set-lt, drop-set-add, length-take-le, getD-take, getD-drop, ext-getD}
 use Rattle.operation.specs.declared.layout.Lengths.{Lengths}
 use Rattle.operation.specs.Rules.{lengthOf}
-use Rattle.machine.specs.Memory.{Memory, spaces, spaceOf, withSpace}
+use Rattle.machine.specs.Memory.{Memory, spaces, lengthsOf, spaceOf, withSpace}
 use Rattle.case_reader.specs.Limits.{mostCaseBytes, spacesRoom}
 use Rattle.case_reader.specs.Case.{zeros, stored}
 use Rattle.case_reader.specs.Buffers.{memoryIn, Zeros, Fits}
@@ -139,3 +139,9 @@ pub new-zeros : (n : ℕ) → Zeros (replicate n 0)
 new-zeros zero i = refl
 new-zeros (suc n) zero = refl
 new-zeros (suc n) (suc i) = new-zeros n i
+
+-- spaces that keep their lengths still fit
+pub kept-fits : (u g m u′ g′ m′ : List ℕ) → Fits (lengthsOf (spaces u g m)) → length u′ ≡ length u → length g′ ≡ length g → length m′ ≡ length m
+    → Fits (lengthsOf (spaces u′ g′ m′))
+unfolding lengthsOf
+kept-fits u g m u′ g′ m′ f a b c = record { unique = omega (arith, a, f .unique); register = omega (arith, b, f .register); ram = omega (arith, c, f .ram) }

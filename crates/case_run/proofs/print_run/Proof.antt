@@ -1,5 +1,5 @@
 -- `case_run::print_run` meets its contract.
-use native.Mathlib.Omega.{arith}
+use Rattle.case_reader.proofs.Storage.{kept-fits}
 use Rattle.case_run.proofs.Running.{logged-in, printed-as}
 use borrow.Author.Needs.{needs}
 use Rattle.case_run.proofs.print_run.Statement.{statement}
@@ -15,7 +15,13 @@ slice-aggregate-put-outcome : tie.Need-slice-aggregate-put-outcome
 slice-aggregate-put-outcome c = search needs
 
 put-outcome-requires : tie.Need-put-outcome-requires
-put-outcome-requires c κs = let l = logged-in _ _ _ _ _ (c .before .before .before .before .before .before .before .before .before .before .before .before .before .before .before .before .before .before .before .before .before .labelled-run .ensures) in (l .0, (l .1, (record { unique = omega (arith, c .before .before .before .before .before .before .before .before .before .before .before .before .before .before .before .before .before .before .before .before .before .labelled-run .kept .1 .1 .1 .1 .0, c .before .before .before .before .before .before .before .before .before .before .before .before .before .before .before .before .before .before .before .before .before .before .before .before .before .before .before .before .before .before .before .before .before .before .before .before .before .pre .0 .unique); register = omega (arith, c .before .before .before .before .before .before .before .before .before .before .before .before .before .before .before .before .before .before .before .before .before .labelled-run .kept .1 .1 .1 .1 .1 .0, c .before .before .before .before .before .before .before .before .before .before .before .before .before .before .before .before .before .before .before .before .before .before .before .before .before .before .before .before .before .before .before .before .before .before .before .before .before .pre .0 .register); ram = omega (arith, c .before .before .before .before .before .before .before .before .before .before .before .before .before .before .before .before .before .before .before .before .before .labelled-run .kept .1 .1 .1 .1 .1 .1 .0, c .before .before .before .before .before .before .before .before .before .before .before .before .before .before .before .before .before .before .before .before .before .before .before .before .before .before .before .before .before .before .before .before .before .before .before .before .before .pre .0 .ram) }, (record { unique = omega (arith, c .before .before .before .before .before .before .before .before .before .before .before .before .before .before .before .before .before .before .before .before .before .labelled-run .kept .1 .1 .1 .1 .1 .1 .1 .0, c .before .before .before .before .before .before .before .before .before .before .before .before .before .before .before .before .before .before .before .before .before .before .before .before .before .before .before .before .before .before .before .before .before .before .before .before .before .pre .1 .0 .unique); register = omega (arith, c .before .before .before .before .before .before .before .before .before .before .before .before .before .before .before .before .before .before .before .before .before .labelled-run .kept .1 .1 .1 .1 .1 .1 .1 .1 .0, c .before .before .before .before .before .before .before .before .before .before .before .before .before .before .before .before .before .before .before .before .before .before .before .before .before .before .before .before .before .before .before .before .before .before .before .before .before .pre .1 .0 .register); ram = omega (arith, c .before .before .before .before .before .before .before .before .before .before .before .before .before .before .before .before .before .before .before .before .before .labelled-run .kept .1 .1 .1 .1 .1 .1 .1 .1 .1 .0, c .before .before .before .before .before .before .before .before .before .before .before .before .before .before .before .before .before .before .before .before .before .before .before .before .before .before .before .before .before .before .before .before .before .before .before .before .before .pre .1 .0 .ram) }, c .before .before .before .before .before .before .before .before .before .before .before .before .before .before .before .before .before .before .before .before .before .before .before .before .before .before .before .before .before .before .before .before .before .before .before .before .before .pre .1 .1))))
+put-outcome-requires c κs =
+    let at-run = c .before .before .before .before .before .before .before .before .before .before .before .before .before .before .before .before .before .before .before .before .before in
+    let start = at-run .before .before .before .before .before .before .before .before .before .before .before .before .before .before .before .before in
+    let l = logged-in _ _ _ _ _ (at-run .labelled-run .ensures) in
+    let k = at-run .labelled-run .kept .1 .1 .1 .1 in
+    let kl = k .1 .1 .1 in
+    (l .0, (l .1, (kept-fits _ _ _ _ _ _ (start .pre .0) (k .0) (k .1 .0) (k .1 .1 .0), (kept-fits _ _ _ _ _ _ (start .pre .1 .0) (kl .0) (kl .1 .0) (kl .1 .1 .0), start .pre .1 .1))))
 
 same-length : tie.Need-same-length
 same-length c = search needs
