@@ -18,6 +18,7 @@ printed [] n (Progress.reading c) = outcomeText (outcome c)
 printed (b ∷ s) n (Progress.reading c) = badText (nextNumber n)
 printed rest n (Progress.badLine k) = badText k
 
+-- The same of lines that were read.
 unfoldable pub printedAfter : (rest : List ℕ) → LinesRead → List ℕ
 printedAfter rest r = printed rest (r .count) (r .progress)
 

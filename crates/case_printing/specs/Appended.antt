@@ -4,8 +4,7 @@ use mathlib.Core.Path.{_≡_}
 use mathlib.Core.List.{List, _++_}
 use lib.ListN.{length, take, drop}
 
--- `text` stands behind the first `at` bytes of `before`, and ends at `end`; `after` is what is then lent, and elsewhere it is as before.
--- The last part follows from the others; it is stated because every caller asks for it.
+-- `after` is `before` with `text` from `at` up to `end`. The last field follows from the others; every caller asks for it.
 pub record Appended (at : ℕ) (before text : List ℕ) (end : ℕ) (after : List ℕ) : Type 0 where
   pub next : end ≡ at + length text
   pub room : end ≤ length before

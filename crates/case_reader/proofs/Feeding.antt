@@ -1,21 +1,20 @@
 -- What a line does to the buffers is what the definition says, frame by frame.
 use Prim.Native.Nat.{ℕ, _+_, _-_, _*_, _≤_, _<_}
 use mathlib.Core.Path.{_≡_, refl, sym, ap, _∙_}
-use mathlib.Core.Bool.{Bool, true, false, cond, _&&_}
+use mathlib.Core.Bool.{Bool, true, false, cond, not, _&&_}
 use mathlib.Core.List.{List, _++_}
 use native.Mathlib.Omega.{arith}
-use borrow.Author.Tests.{leb-true, lt-ltb, le-ltb, eqb-true}
+use borrow.Author.Tests.{leb-true, lt-ltb, le-ltb, eqb-true, not-true, not-false}
 use lib.Dec.{eqb, leb}
 use lib.ListN.{length, take, drop, length-append}
 use lib.Seq.{sets, sets-eq, length-sets, length-take-le, take-at}
 use Rattle.integer.proofs.Booleans.{both}
-use Rattle.word.proofs.Tests.{leb-agree}
 use Rattle.word.proofs.Sums.{tabulate-length}
 use Rattle.operation.specs.declared.layout.Settings.{Settings}
 use Rattle.operation.specs.declared.layout.Lengths.{Lengths}
 use Rattle.operation.specs.Layout.{wordsPerOperation, operationCount}
 use Rattle.operation.specs.Rules.{lengthOf}
-use Rattle.case_frame.specs.Frames.{operationLength, frameOf, bytesOn, wordsOn}
+use Rattle.case_frame.specs.Frames.{bytesLength, operationLength, frameOf, bytesOn, wordsOn}
 use Rattle.case_frame.specs.declared.Frame.{Frame}
 use Rattle.case_frame.specs.declared.Frame.the-variants.{Opening, Bytes, Operation}
 use Rattle.case_frame.proofs.Laws.{BytesLine, frame-line}
@@ -91,15 +90,6 @@ known l fits space offset count some h = by (eqb space 2) (eqb space 3) (eqb spa
     by false false true e2 e3 e4 k = let e = eqb-true space 4 e4 in record { low = omega (arith, e); high = omega (arith, e); most = omega (arith, k, fits .ram) }
     by false false false e2 e3 e4 k = absurd (let z : ⊥ = omega arith in z)
 
--- and so they have room in the buffer
-pub in-buffer : {space offset count place room : ℕ} → Inside space offset count → place ≡ (space - 2) * mostCaseBytes + offset → room ≡ spacesRoom → place + count ≤ room
-in-buffer i p r = omega (arith, i .low, i .high, i .most, p, r)
-
--- offset + count within an extent, tested without a sum
-pub same-test : (extent offset count bound : ℕ) → extent ≡ bound → offset ≤ extent → leb count (extent - offset) ≡ leb (offset + count) bound
-same-test extent offset count bound e h =
-    leb-agree count (extent - offset) (offset + count) bound (λ k. omega (arith, k, e, h)) (λ k. omega (arith, k, e, h))
-
 -- the words of one more operation
 added : (o : ℕ) (s ws ws′ : List ℕ) → ws′ ≡ sets ws (wordsPerOperation * o) (wordsOn s) → wordsPerOperation * o + wordsPerOperation ≤ length ws
     → take (wordsPerOperation * (o + 1)) ws′ ≡ take (wordsPerOperation * o) ws ++ wordsOn s
@@ -123,7 +113,7 @@ module _ (n : ℕ) (s : List ℕ) {f : Frame} (e : f ≡ frameOf s) (d : Header)
 
   module _ (of-labels : Bool) (space offset count : ℕ) (k : f ≡ Bytes of-labels space offset count) where
     -- what is known of such a line
-    pub bytes-line : BytesLine count s
+    bytes-line : BytesLine count s
     bytes-line = rw (sym e ∙ k) at (frame-line s)
 
     extent : (b : List ℕ) → length b ≡ spacesRoom → inSpace (memoryIn (d .lengths) b) space offset count ≡ leb (offset + count) (lengthOf (d .lengths) space)
@@ -136,15 +126,26 @@ module _ (n : ℕ) (s : List ℕ) {f : Frame} (e : f ≡ frameOf s) (d : Header)
     outside g false = rw (extent m (h .memoryRoom), g)
     outside g true = rw (extent ls (h .labelRoom), g)
 
-    pub fed-outside : leb (offset + count) (lengthOf (d .lengths) space) ≡ false → Fed n s (Reading d) m ls ws (BadLine n) m ls ws
-    fed-outside g = fed-bad (ap (λ x. extended n s x (caseIn d m ls ws)) k ∙ outside g of-labels)
+    pub fed-outside : {t : Bool} → t ≡ leb (offset + count) (lengthOf (d .lengths) space) → not t ≡ true → Fed n s (Reading d) m ls ws (BadLine n) m ls ws
+    fed-outside {t} a b = fed-bad (ap (λ x. extended n s x (caseIn d m ls ws)) k ∙ outside (sym a ∙ not-true t b) of-labels)
 
-    module _ (g : leb (offset + count) (lengthOf (d .lengths) space) ≡ true) where
+    module _ {t : Bool} (a : t ≡ leb (offset + count) (lengthOf (d .lengths) space)) (b : not t ≡ false) where
+      g : leb (offset + count) (lengthOf (d .lengths) space) ≡ true
+      g = sym a ∙ not-false t b
+
       within : offset + count ≤ lengthOf (d .lengths) space
       within = leb-true _ _ g
 
-      pub inside : Inside space offset count
+      inside : Inside space offset count
       inside = known (d .lengths) (h .stageFits .lengths) space offset count (bytes-line .some) within
+
+      -- what the store asks: a place in the buffer, and room there
+      pub placed : (2 ≤ space) × (space ≤ 4) × (offset ≤ mostCaseBytes)
+      placed = let i = inside in (i .low, i .high, omega (arith, i .most))
+
+      pub stores : {place : ℕ} → place ≡ (space - 2) * mostCaseBytes + offset → {room : ℕ} → room ≡ spacesRoom
+          → (bytesLength count ≤ length s) × (place + count ≤ room)
+      stores p e = let i = inside in (omega (arith, bytes-line .whole), omega (arith, i .low, i .high, i .most, p, e))
 
       bytes-count : length (bytesOn count s) ≡ count
       unfolding bytesOn
@@ -189,8 +190,13 @@ module _ (n : ℕ) (s : List ℕ) {f : Frame} (e : f ≡ frameOf s) (d : Header)
 
   module _ (k : f ≡ Operation) where
     -- what is known of such a line
-    pub operation-line : length s ≡ operationLength
+    operation-line : length s ≡ operationLength
     operation-line = rw (sym e ∙ k) at (frame-line s)
+
+    -- what the store asks
+    pub stores-words : (d .operations ≡ mostCaseOperations → ⊥)
+        → (operationLength ≤ length s) × (wordsPerOperation * d .operations + wordsPerOperation ≤ length ws)
+    stores-words g = (omega (arith, operation-line), omega (arith, g, h .stageFits .operations, h .wordRoom))
 
     counted : operationCount (take (wordsPerOperation * d .operations) ws) ≡ d .operations
     unfolding operationCount

@@ -17,6 +17,7 @@ unfoldable pub memoryIn : Lengths → (buffer : List ℕ) → Memory
 memoryIn l buffer =
     spaces (take (l .unique) buffer) (take (l .register) (drop mostCaseBytes buffer)) (take (l .ram) (drop (2 * mostCaseBytes) buffer))
 
+-- The case that the buffers hold.
 unfoldable pub caseIn : Header → (memory labels words : List ℕ) → Case
 caseIn h m ls ws =
     record {
@@ -27,6 +28,7 @@ caseIn h m ls ws =
       list = take (wordsPerOperation * h .operations) ws;
     }
 
+-- What has been read, as the buffers hold it.
 unfoldable pub progressIn : Stage → (memory labels words : List ℕ) → Progress
 progressIn Nothing m ls ws = Progress.nothing
 progressIn (Reading h) m ls ws = Progress.reading (caseIn h m ls ws)
@@ -38,11 +40,13 @@ progressIn (BadLine n) m ls ws = Progress.badLine n
 abbrev pub Zeros : List ℕ → Type 0
 Zeros l = (i : ℕ) → getD l i 0 ≡ 0
 
+-- No space is longer than a case allows.
 pub record Fits (l : Lengths) : Type 0 where
   pub unique : l .unique ≤ mostCaseBytes
   pub register : l .register ≤ mostCaseBytes
   pub ram : l .ram ≤ mostCaseBytes
 
+-- A header within the limits of a case.
 pub record HeaderFits (h : Header) : Type 0 where
   pub lengths : Fits (h .lengths)
   pub operations : h .operations ≤ mostCaseOperations
@@ -53,6 +57,7 @@ StageFits Nothing m ls = Zeros m × Zeros ls
 StageFits (Reading h) m ls = HeaderFits h
 StageFits (BadLine n) m ls = Unit
 
+-- Buffers that have the reader's lengths and fit its stage.
 pub record Sound (stage : Stage) (memory labels words : List ℕ) : Type 0 where
   pub memoryRoom : length memory ≡ spacesRoom
   pub labelRoom : length labels ≡ spacesRoom

@@ -38,6 +38,7 @@ lengthsFit l = leb (l .unique) mostCaseBytes && leb (l .register) mostCaseBytes 
 unfoldable pub zeros : Lengths → Memory
 zeros l = spaces (replicate (l .unique) 0) (replicate (l .register) 0) (replicate (l .ram) 0)
 
+-- The case after its first line.
 unfoldable pub opening : Settings → Lengths → (budget : ℕ) → Case
 opening settings lengths budget =
     record { settings = settings; budget = budget; memory = zeros lengths; labels = zeros lengths; list = [] }
@@ -59,12 +60,15 @@ inSpace m space offset count = leb (offset + count) (length (spaceOf m space))
 unfoldable pub stored : Memory → (space offset : ℕ) → (bytes : List ℕ) → Memory
 stored m space offset bytes = withSpace m space (sets (spaceOf m space) offset bytes)
 
+-- A case with another memory.
 unfoldable pub withMemory : Case → Memory → Case
 withMemory c m = record { settings = c .settings; budget = c .budget; memory = m; labels = c .labels; list = c .list }
 
+-- A case with other labels.
 unfoldable pub withLabels : Case → Memory → Case
 withLabels c m = record { settings = c .settings; budget = c .budget; memory = c .memory; labels = m; list = c .list }
 
+-- A case with one more operation.
 unfoldable pub withOperation : Case → (words : List ℕ) → Case
 withOperation c words = record { settings = c .settings; budget = c .budget; memory = c .memory; labels = c .labels; list = c .list ++ words }
 

@@ -28,9 +28,11 @@ pub record LinesRead : Type 0 where
 unfoldable pub nextNumber : ℕ → ℕ
 nextNumber n = cond (ltb n (2 ^ 64 - 1)) (n + 1) n
 
+-- Before the first line.
 unfoldable pub noLine : LinesRead
 noLine = record { count = 0; progress = Progress.nothing }
 
+-- One line more.
 unfoldable pub lineRead : LinesRead → (line : List ℕ) → LinesRead
 lineRead r s = record { count = nextNumber (r .count); progress = afterLine (nextNumber (r .count)) s (r .progress) }
 

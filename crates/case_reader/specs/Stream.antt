@@ -8,6 +8,7 @@ use Rattle.case_reader.specs.Buffers.{progressIn, Zeros, Sound}
 use Rattle.case_reader.specs.Lines.{linesOf, restOf, noLine, linesRead}
 use Rattle.case_reader.specs.declared.stream.Reader.{Reader}
 
+-- Buffers that have the reader's lengths and hold its unfinished line.
 pub record ReaderFits (r : Reader) (line memory labels words : List ℕ) : Type 0 where
   pub room : length line ≡ lineRoom
   pub have : r .have ≤ lineRoom

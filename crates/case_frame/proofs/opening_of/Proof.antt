@@ -14,7 +14,9 @@ returns c = rw (ne-eqb _ _ (c .if1 .taken))
 
 cast-t12 : tie.Need-cast-t12
 cast-t12 c =
-    let start = c .before .before .before .before .before .before .before .before in
+    let at-number2 = c .before .before .before .before in
+    let start′ = at-number2 .before .before .before .before in
+    let start = start′ in
     record { fits = omega (arith, c .number6 .ensures, number-fits (start .args .s .now) budgetPlace numberDigits) }
 
 returns-2 : tie.Need-returns-2

@@ -3,7 +3,7 @@ use Rattle.case_hexadecimal.proofs.Laws.{digits-end, digits-stop, digit
 use native.Mathlib.Omega.{arith}
 use mathlib.Core.Path.{_∙_, sym}
 use lib.ListN.{length, drop}
-use mathlib.Core.Path.{_≡_, refl}
+use mathlib.Core.Path.{_≡_}
 use Prim.Native.Nat.{_≤_, _-_}
 use Rattle.case_hexadecimal.specs.Digits.{allDigits}
 use borrow.Author.Needs.{needs}
@@ -16,29 +16,11 @@ Inv-loop s i₀ i = (i ≤ length s) × (allDigits s ≡ allDigits (drop i s))
 abbrev μ-loop : tie.MeasureT-loop
 μ-loop s i₀ i = length s - i
 
-loop-holds : tie.Need-loop-holds Inv-loop μ-loop
-loop-holds c = (search needs, refl)
-
-shared-slice-read-digit : tie.Need-shared-slice-read-digit Inv-loop μ-loop
-shared-slice-read-digit c = search needs
-
-digit-requires : tie.Need-digit-requires Inv-loop μ-loop
-digit-requires c κs = search needs
-
 returns : tie.Need-returns Inv-loop μ-loop
 returns c = digits-stop _ (c .before .before .before .before .loop .i) (search needs) (omega (arith, c .if1 .taken, c .before .digit .ensures)) ∙ sym (c .before .before .before .before .loop .inv .1)
 
-add-i : tie.Need-add-i Inv-loop μ-loop
-add-i c = search needs
-
-loop-less : tie.Need-loop-less Inv-loop μ-loop
-loop-less c = search needs
-
 loop-again : tie.Need-loop-again Inv-loop μ-loop
 loop-again c = (search needs, c .before .before .before .before .loop .inv .1 ∙ digits-more _ (c .before .before .before .before .loop .i) (search needs) (omega (arith, c .if1 .left, c .before .digit .ensures)))
-
-returns-2 : tie.Need-returns-2 Inv-loop μ-loop
-returns-2 c = digits-end _ (c .before .loop .i) (search needs) ∙ sym (c .before .loop .inv .1)
 
 pub all-digits-spec : {M : Type 1} → statement M
 all-digits-spec =
@@ -46,11 +28,11 @@ all-digits-spec =
     (tie.spec
     Inv-loop
     μ-loop
-    loop-holds
-    shared-slice-read-digit
-    digit-requires
+    (λ c. search needs)
+    (λ c. search needs)
+    (λ c κs. search needs)
     returns
-    add-i
-    loop-less
+    (λ c. search needs)
+    (λ c. search needs)
     loop-again
-    returns-2)
+    (λ c. digits-end _ (c .before .loop .i) (search needs) ∙ sym (c .before .loop .inv .1)))

@@ -9,12 +9,6 @@ returns : tie.Need-returns
 unfolding digitOf
 returns c = rw (lt-ltb _ _ (c .if1 .taken))
 
-wide-requires : tie.Need-wide-requires
-wide-requires c κs = search needs
-
-sub-result : tie.Need-sub-result
-sub-result c = search needs
-
 returns-2 : tie.Need-returns-2
 unfolding digitOf
 returns-2 c = rw (le-ltb _ _ (c .before .before .if1 .left), lt-ltb _ _ (c .before .if2 .taken), c .wide .ensures)
@@ -22,12 +16,6 @@ returns-2 c = rw (le-ltb _ _ (c .before .before .if1 .left), lt-ltb _ _ (c .befo
 returns-3 : tie.Need-returns-3
 unfolding digitOf
 returns-3 c = rw (le-ltb _ _ (c .before .before .if1 .left), le-ltb _ _ (c .before .if2 .left), lt-ltb _ _ (c .if3 .taken))
-
-wide-requires-2 : tie.Need-wide-requires-2
-wide-requires-2 c κs = search needs
-
-sub-result-2 : tie.Need-sub-result-2
-sub-result-2 c = search needs
 
 returns-4 : tie.Need-returns-4
 unfolding digitOf
@@ -42,11 +30,11 @@ digit-spec =
     tie.close
     (tie.spec
     returns
-    wide-requires
-    sub-result
+    (λ c κs. search needs)
+    (λ c. search needs)
     returns-2
     returns-3
-    wide-requires-2
-    sub-result-2
+    (λ c κs. search needs)
+    (λ c. search needs)
     returns-4
     returns-5)

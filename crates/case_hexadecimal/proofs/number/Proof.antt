@@ -3,7 +3,7 @@ use Rattle.case_hexadecimal.proofs.Laws.{number-more, number-room}
 use native.Mathlib.Nat.{mod-lt}
 use mathlib.Core.Path.{_∙_}
 use native.Mathlib.Omega.{arith}
-use mathlib.Core.Path.{_≡_, refl}
+use mathlib.Core.Path.{_≡_}
 use Prim.Native.Nat.{_≤_, _-_}
 use Rattle.case_hexadecimal.specs.Digits.{numberAt}
 use borrow.Author.Needs.{needs}
@@ -18,31 +18,16 @@ abbrev μ-loop : tie.MeasureT-loop
 
 loop-holds : tie.Need-loop-holds Inv-loop μ-loop
 unfolding numberAt
-loop-holds c = (search needs, refl)
+loop-holds c = search needs
 
 mul-n : tie.Need-mul-n Inv-loop μ-loop
 mul-n c = record { fits = omega (arith, number-room (c .before .before .before .args .s .now) (c .before .before .before .args .at) (c .before .loop .i) (search needs)) }
 
-add-digit : tie.Need-add-digit Inv-loop μ-loop
-add-digit c = search needs
-
-shared-slice-read-digit : tie.Need-shared-slice-read-digit Inv-loop μ-loop
-shared-slice-read-digit c = search needs
-
-digit-requires : tie.Need-digit-requires Inv-loop μ-loop
-digit-requires c κs = search needs
-
 add-n : tie.Need-add-n Inv-loop μ-loop
-add-n c = record { fits = omega (arith, mod-lt (c .digit .result) {m = 16} (omega arith), number-room (c .before .before .before .before .before .args .s .now) (c .before .before .before .before .before .args .at) (c .before .before .before .loop .i) (search needs)) }
-
-add-i : tie.Need-add-i Inv-loop μ-loop
-add-i c = search needs
-
-loop-less : tie.Need-loop-less Inv-loop μ-loop
-loop-less c = search needs
-
-loop-again : tie.Need-loop-again Inv-loop μ-loop
-loop-again c = (search needs, number-more _ _ _ (c .before .before .before .loop .inv .1) (c .digit .ensures))
+add-n c =
+    let at-shared-slice-known = c .before .before .before .before in
+    let start = at-shared-slice-known .before in
+    record { fits = omega (arith, mod-lt (c .digit .result) {m = 16} (omega arith), number-room (start .args .s .now) (start .args .at) (c .before .before .before .loop .i) (search needs)) }
 
 returns : tie.Need-returns Inv-loop μ-loop
 returns c = let e : c .before .loop .i ≡ c .before .before .before .args .k = search needs in c .before .loop .inv .1 ∙ rw e
@@ -55,11 +40,11 @@ number-spec =
     μ-loop
     loop-holds
     mul-n
-    add-digit
-    shared-slice-read-digit
-    digit-requires
+    (λ c. search needs)
+    (λ c. search needs)
+    (λ c κs. search needs)
     add-n
-    add-i
-    loop-less
-    loop-again
+    (λ c. search needs)
+    (λ c. search needs)
+    (λ c. (search needs, number-more _ _ _ (c .before .before .before .loop .inv .1) (c .digit .ensures)))
     returns)

@@ -34,11 +34,7 @@ put-space-requires-3 c κs =
 
 returns : tie.Need-returns
 unfolding memoryText
-returns c =
-    let at-3 = c .before .before in
-    let at-2 = at-3 .before .before .before .before in
-    let at-1 = at-2 .before .before .before .before in
-    then (then (at-1 .put-space .ensures) (at-2 .put-space2 .ensures)) (at-3 .put-space3 .ensures)
+returns c = search (needs, then)
 
 pub put-memory-spec : {M : Type 1} → statement M
 put-memory-spec = tie.close (tie.spec put-space-requires put-space-requires-2 put-space-requires-3 (λ c. search needs) returns)

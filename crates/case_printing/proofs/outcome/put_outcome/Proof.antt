@@ -1,6 +1,5 @@
 -- `case_printing::outcome::put_outcome` meets its contract.
 use Rattle.case_printing.proofs.Rooms.{past-memory}
-use mathlib.Core.Path.{sym}
 use native.Mathlib.Omega.{arith}
 use Rattle.case_printing.proofs.Appending.{then}
 use Rattle.case_printing.proofs.Lengths.{past-report, past-log}
@@ -10,36 +9,52 @@ use borrow.Author.Needs.{needs}
 use Rattle.case_printing.proofs.outcome.put_outcome.Statement.{statement}
 use Rattle.case_printing.proofs.outcome.put_outcome.Tie as tie
 
-put-report-requires : tie.Need-put-report-requires
-put-report-requires c κs = search needs
-
-slice-aggregate-put-log : tie.Need-slice-aggregate-put-log
-slice-aggregate-put-log c = sym (length-take-le _ _ (c .before .before .before .before .before .before .before .before .before .before .before .before .before .before .pre .0))
-
 put-log-requires : tie.Need-put-log-requires
-put-log-requires c κs = let p = past-report _ _ _ _ _ (c .before .before .before .before .put-report .ensures) in omega (arith, p .0, p .1, c .before .before .before .before .before .before .before .before .before .before .before .before .before .before .pre .0, c .before .before .before .before .before .before .before .before .before .before .before .before .before .before .pre .1 .0, c .before .before .before .before .before .before .before .before .before .before .before .before .before .before .pre .1 .1 .1 .1, length-take-le (c .before .before .before .before .before .before .before .before .before .before .before .before .before .before .args .report .logged) (c .before .before .before .before .before .before .before .before .before .before .before .before .before .before .args .log .now) (c .before .before .before .before .before .before .before .before .before .before .before .before .before .before .pre .0))
+put-log-requires c κs =
+    let at-put-report = c .before .before .before .before in
+    let at-shared-slice-known5 = at-put-report .before .before .before .before in
+    let at-shared-slice-known = at-shared-slice-known5 .before .before .before .before in
+    let start = at-shared-slice-known .before .before in
+    let p = past-report _ _ _ _ _ (at-put-report .put-report .ensures) in omega (arith, p .0, p .1, start .pre .0, start .pre .1 .0, start .pre .1 .1 .1 .1, length-take-le (start .args .report .logged) (start .args .log .now) (start .pre .0))
 
 put-memory-requires : tie.Need-put-memory-requires
-put-memory-requires c κs = let p = past-report _ _ _ _ _ (c .before .before .before .before .before .before .before .before .put-report .ensures) in let q = past-log _ (c .before .before .before .put-log .ensures) in (c .before .before .before .before .before .before .before .before .before .before .before .before .before .before .before .before .before .before .pre .1 .1 .0, omega (arith, p .0, p .1, q .0, q .1, c .before .before .before .before .before .before .before .before .before .before .before .before .before .before .before .before .before .before .pre .0, c .before .before .before .before .before .before .before .before .before .before .before .before .before .before .before .before .before .before .pre .1 .0, c .before .before .before .before .before .before .before .before .before .before .before .before .before .before .before .before .before .before .pre .1 .1 .1 .1, length-take-le (c .before .before .before .before .before .before .before .before .before .before .before .before .before .before .before .before .before .before .args .report .logged) (c .before .before .before .before .before .before .before .before .before .before .before .before .before .before .before .before .before .before .args .log .now) (c .before .before .before .before .before .before .before .before .before .before .before .before .before .before .before .before .before .before .pre .0)))
+put-memory-requires c κs =
+    let at-put-log-arg2 = c .before .before .before .before in
+    let at-put-report = at-put-log-arg2 .before .before .before .before in
+    let at-shared-slice-known5 = at-put-report .before .before .before .before in
+    let at-shared-slice-known = at-shared-slice-known5 .before .before .before .before in
+    let start = at-shared-slice-known .before .before in
+    let p = past-report _ _ _ _ _ (at-put-report .put-report .ensures) in let q = past-log _ (c .before .before .before .put-log .ensures) in (start .pre .1 .1 .0, omega (arith, p .0, p .1, q .0, q .1, start .pre .0, start .pre .1 .0, start .pre .1 .1 .1 .1, length-take-le (start .args .report .logged) (start .args .log .now) (start .pre .0)))
 
 put-memory-requires-2 : tie.Need-put-memory-requires-2
-put-memory-requires-2 c κs = let p = past-report _ _ _ _ _ (c .before .before .before .before .before .before .before .before .before .before .before .before .put-report .ensures) in let q = past-log _ (c .before .before .before .before .before .before .before .put-log .ensures) in let r = past-memory _ _ (c .before .before .before .before .before .before .before .before .before .before .before .before .before .before .before .before .before .before .before .before .before .before .pre .1 .1 .0) (c .before .before .before .put-memory .ensures) in (c .before .before .before .before .before .before .before .before .before .before .before .before .before .before .before .before .before .before .before .before .before .before .pre .1 .1 .1 .0, omega (arith, p .0, p .1, q .0, q .1, r .0, r .1, c .before .before .before .before .before .before .before .before .before .before .before .before .before .before .before .before .before .before .before .before .before .before .pre .0, c .before .before .before .before .before .before .before .before .before .before .before .before .before .before .before .before .before .before .before .before .before .before .pre .1 .0, c .before .before .before .before .before .before .before .before .before .before .before .before .before .before .before .before .before .before .before .before .before .before .pre .1 .1 .1 .1, length-take-le (c .before .before .before .before .before .before .before .before .before .before .before .before .before .before .before .before .before .before .before .before .before .before .args .report .logged) (c .before .before .before .before .before .before .before .before .before .before .before .before .before .before .before .before .before .before .before .before .before .before .args .log .now) (c .before .before .before .before .before .before .before .before .before .before .before .before .before .before .before .before .before .before .before .before .before .before .pre .0)))
-
-same-length : tie.Need-same-length
-same-length c = search needs
+put-memory-requires-2 c κs =
+    let at-put-memory-arg = c .before .before .before .before in
+    let at-put-log = at-put-memory-arg .before .before .before in
+    let at-out = at-put-log .before .before .before .before in
+    let at-put-report = at-out .before in
+    let at-shared-slice-known5 = at-put-report .before .before .before .before in
+    let at-shared-slice-known = at-shared-slice-known5 .before .before .before .before in
+    let start = at-shared-slice-known .before .before in
+    let p = past-report _ _ _ _ _ (at-put-report .put-report .ensures) in let q = past-log _ (at-put-log .put-log .ensures) in let r = past-memory _ _ (start .pre .1 .1 .0) (c .before .before .before .put-memory .ensures) in (start .pre .1 .1 .1 .0, omega (arith, p .0, p .1, q .0, q .1, r .0, r .1, start .pre .0, start .pre .1 .0, start .pre .1 .1 .1 .1, length-take-le (start .args .report .logged) (start .args .log .now) (start .pre .0)))
 
 returns : tie.Need-returns
 unfolding outcomeText reportLine
-returns c = then (then (then (c .before .before .before .before .before .before .before .before .before .before .before .before .before .before .before .put-report .ensures) (c .before .before .before .before .before .before .before .before .before .before .put-log .ensures)) (c .before .before .before .before .before .before .put-memory .ensures)) (c .before .before .put-memory2 .ensures)
+returns c =
+    let at-slice-known4 = c .before .before .before .before in
+    let at-put-memory = at-slice-known4 .before .before in
+    let at-put-log = at-put-memory .before .before .before .before in
+    let at-out = at-put-log .before .before .before .before in
+    let at-put-report = at-out .before in
+    then (then (then (at-put-report .put-report .ensures) (at-put-log .put-log .ensures)) (at-put-memory .put-memory .ensures)) (c .before .before .put-memory2 .ensures)
 
 pub put-outcome-spec : {M : Type 1} → statement M
 put-outcome-spec =
     tie.close
     (tie.spec
-    put-report-requires
-    slice-aggregate-put-log
+    (λ c κs. search needs)
+    (λ c. search (needs, length-take-le))
     put-log-requires
     put-memory-requires
     put-memory-requires-2
-    same-length
+    (λ c. search needs)
     returns)

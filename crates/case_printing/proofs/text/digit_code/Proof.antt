@@ -5,25 +5,13 @@ use Rattle.case_printing.specs.Text.{digitCode}
 use Rattle.case_printing.proofs.text.digit_code.Statement.{statement}
 use Rattle.case_printing.proofs.text.digit_code.Tie as tie
 
-add-result : tie.Need-add-result
-add-result c = search needs
-
-cast-result : tie.Need-cast-result
-cast-result c = search needs
-
 returns : tie.Need-returns
 unfolding digitCode
-returns c = rw (lt-ltb _ _ (c .if1 .taken))
-
-add-result-2 : tie.Need-add-result-2
-add-result-2 c = search needs
-
-cast-result-2 : tie.Need-cast-result-2
-cast-result-2 c = search needs
+returns c = search (needs, lt-ltb)
 
 returns-2 : tie.Need-returns-2
 unfolding digitCode
-returns-2 c = rw (le-ltb _ _ (c .if1 .left))
+returns-2 c = search (needs, le-ltb)
 
 pub digit-code-spec : {M : Type 1} → statement M
-digit-code-spec = tie.close (tie.spec add-result cast-result returns add-result-2 cast-result-2 returns-2)
+digit-code-spec = tie.close (tie.spec (λ c. search needs) (λ c. search needs) returns (λ c. search needs) (λ c. search needs) returns-2)

@@ -22,36 +22,23 @@ Inv-loop out₀ at s p₀ i₀ out p i = (i ≤ length s) × Appended at out₀ 
 abbrev μ-loop : tie.MeasureT-loop
 μ-loop out₀ at s p₀ i₀ out p i = length s - i
 
-loop-holds : tie.Need-loop-holds Inv-loop μ-loop
-loop-holds c = (omega arith, joined-none _ _ _ (omega arith))
-
-shared-slice-read-wide : tie.Need-shared-slice-read-wide Inv-loop μ-loop
-shared-slice-read-wide c = search needs
-
-wide-requires : tie.Need-wide-requires Inv-loop μ-loop
-wide-requires c κs = tt
-
 put-hex-requires : tie.Need-put-hex-requires Inv-loop μ-loop
 put-hex-requires c κs =
-    let l = c .before .before .before .before .loop in
-    let s = c .before .before .before .before .before .before .before .args .s .now in
+    let at-loop = c .before .before .before .before in
+    let start = at-loop .before .before .before in
+    let l = at-loop .loop in
+    let s = start .args .s .now in
     let so-far = past-joined byteDigits (l .i) (digits s) (λ k. omega (arith, length-hex byteDigits (getD s k 0))) (l .inv .1) in
-    omega (arith, so-far, c .before .before .before .before .before .before .before .pre)
-
-add-i : tie.Need-add-i Inv-loop μ-loop
-add-i c = search needs
-
-loop-less : tie.Need-loop-less Inv-loop μ-loop
-loop-less c = search needs
+    omega (arith, so-far, start .pre)
 
 loop-again : tie.Need-loop-again Inv-loop μ-loop
 loop-again c =
-    let l = c .before .before .before .before .before .before .before .loop in
-    let s = c .before .before .before .before .before .before .before .before .before .before .args .s .now in
+    let at-shared-slice-known2 = c .before .before .before .before in
+    let at-loop = at-shared-slice-known2 .before .before .before in
+    let start = at-loop .before .before .before in
+    let l = at-loop .loop in
+    let s = start .args .s .now in
     (search needs, joined-then (l .i) (digits s) (l .inv .1) (rw (← (c .before .before .before .wide .ensures)) (c .before .before .put-hex .ensures)))
-
-same-length : tie.Need-same-length Inv-loop μ-loop
-same-length c = c .before .loop .inv .1 .long
 
 returns : tie.Need-returns Inv-loop μ-loop
 unfolding bytesText
@@ -60,4 +47,4 @@ returns c =
     rw (← e) (c .before .loop .inv .1)
 
 pub put-bytes-spec : {M : Type 1} → statement M
-put-bytes-spec = tie.close (tie.spec Inv-loop μ-loop loop-holds shared-slice-read-wide wide-requires put-hex-requires add-i loop-less loop-again same-length returns)
+put-bytes-spec = tie.close (tie.spec Inv-loop μ-loop (λ c. (omega arith, joined-none _ _ _ (omega arith))) (λ c. search needs) (λ c κs. search needs) put-hex-requires (λ c. search needs) (λ c. search needs) loop-again (λ c. search needs) returns)

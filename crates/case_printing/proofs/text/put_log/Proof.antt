@@ -21,35 +21,14 @@ Inv-loop out₀ at words p₀ i₀ out p i = (i ≤ length words) × Appended at
 abbrev μ-loop : tie.MeasureT-loop
 μ-loop out₀ at words p₀ i₀ out p i = length words - i
 
-loop-holds : tie.Need-loop-holds Inv-loop μ-loop
-loop-holds c = (omega arith, joined-none _ _ _ (omega arith))
-
-mul-put-word : tie.Need-mul-put-word Inv-loop μ-loop
-mul-put-word c = search needs
-
-shared-slice-read-put-word : tie.Need-shared-slice-read-put-word Inv-loop μ-loop
-shared-slice-read-put-word c = search needs
-
 put-word-requires : tie.Need-put-word-requires Inv-loop μ-loop
 put-word-requires c κs =
+    let at-shared-slice-known = c .before .before .before .before in
+    let start = at-shared-slice-known .before .before in
     let l = c .before .before .before .loop in
-    let words = c .before .before .before .before .before .before .args .words .now in
+    let words = start .args .words .now in
     let so-far = past-joined wordLineLength (l .i) (line words) (λ k. omega (arith, length-word (getD words k 0))) (l .inv .1) in
-    omega (arith, so-far, c .before .before .before .before .before .before .pre)
-
-add-i : tie.Need-add-i Inv-loop μ-loop
-add-i c = search needs
-
-loop-less : tie.Need-loop-less Inv-loop μ-loop
-loop-less c = search needs
-
-loop-again : tie.Need-loop-again Inv-loop μ-loop
-loop-again c =
-    let l = c .before .before .before .before .before .before .loop in
-    (search needs, joined-then (l .i) (line (c .before .before .before .before .before .before .before .before .before .args .words .now)) (l .inv .1) (c .before .before .put-word .ensures))
-
-same-length : tie.Need-same-length Inv-loop μ-loop
-same-length c = c .before .loop .inv .1 .long
+    omega (arith, so-far, start .pre)
 
 returns : tie.Need-returns Inv-loop μ-loop
 unfolding logText
@@ -58,4 +37,4 @@ returns c =
     rw (← e) (c .before .loop .inv .1)
 
 pub put-log-spec : {M : Type 1} → statement M
-put-log-spec = tie.close (tie.spec Inv-loop μ-loop loop-holds mul-put-word shared-slice-read-put-word put-word-requires add-i loop-less loop-again same-length returns)
+put-log-spec = tie.close (tie.spec Inv-loop μ-loop (λ c. (omega arith, joined-none _ _ _ (omega arith))) (λ c. search needs) (λ c. search needs) put-word-requires (λ c. search needs) (λ c. search needs) (λ c. search (needs, joined-then)) (λ c. search needs) returns)

@@ -5,8 +5,5 @@ use Rattle.case_reader.proofs.Storage.{new-zeros}
 use Rattle.case_reader.proofs.buffers.spaces.Statement.{statement}
 use Rattle.case_reader.proofs.buffers.spaces.Tie as tie
 
-returns : tie.Need-returns
-returns c = (refl, new-zeros spacesRoom)
-
 pub spaces-spec : {M : Type 1} → statement M
-spaces-spec = tie.close (tie.spec returns)
+spaces-spec = tie.close (tie.spec (λ c. (refl, new-zeros spacesRoom)))

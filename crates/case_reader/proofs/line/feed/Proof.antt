@@ -4,51 +4,45 @@ use borrow.Author.Needs.{needs}
 use Rattle.case_reader.proofs.line.feed.Statement.{statement}
 use Rattle.case_reader.proofs.line.feed.Tie as tie
 
-enum-told : tie.Need-enum-told
-enum-told c = search needs
-
-open-requires : tie.Need-open-requires
-open-requires c κs = search needs
-
-enum-known-stage : tie.Need-enum-known-stage
-enum-known-stage c = search needs
-
 continue-with-requires : tie.Need-continue-with-requires
-continue-with-requires c κs = rw (c .before .before .before .before .stage .given .1) at (c .before .before .before .before .before .before .before .before .before .before .pre)
-
-enum-known-stage-2 : tie.Need-enum-known-stage-2
-enum-known-stage-2 c = search needs
+continue-with-requires c κs =
+    let at-stage = c .before .before .before .before in
+    let at-slice-known = at-stage .before .before .before .before in
+    let start = at-slice-known .before .before in
+    rw (at-stage .stage .given .1) at (start .pre)
 
 returns : tie.Need-returns
-returns c = rw (c .before .enum-told .given .1) (c .«open» .ensures _ _ _ (rw (c .before .enum-told .given .1) at (c .before .before .before .before .before .before .before .pre)))
-
-same-length : tie.Need-same-length
-same-length c = search needs
-
-same-length-2 : tie.Need-same-length-2
-same-length-2 c = search needs
-
-same-length-3 : tie.Need-same-length-3
-same-length-3 c = search needs
+returns c =
+    let at-slice-known2 = c .before .before .before .before in
+    let start = at-slice-known2 .before .before .before in
+    rw (c .before .enum-told .given .1) (c .«open» .ensures _ _ _ (rw (c .before .enum-told .given .1) at (start .pre)))
 
 returns-2 : tie.Need-returns-2
-returns-2 c = rw (c .before .before .before .before .before .before .before .before .before .before .before .stage .given .1) (c .before .before .before .before .before .before .continue-with .ensures)
+returns-2 c =
+    let at-slice-known4 = c .before .before .before .before in
+    let at-continue-with = at-slice-known4 .before .before in
+    let at-known-told = at-continue-with .before .before .before .before in
+    let at-stage = at-known-told .before in
+    rw (at-stage .stage .given .1) (at-continue-with .continue-with .ensures)
 
 returns-3 : tie.Need-returns-3
-returns-3 c = rw (c .before .stage2 .given .1) (still-bad _ _ _ _ _ _ (rw (c .before .stage2 .given .1) at (c .before .before .before .before .before .before .before .pre)))
+returns-3 c =
+    let at-slice-known2 = c .before .before .before .before in
+    let start = at-slice-known2 .before .before .before in
+    rw (c .before .stage2 .given .1) (still-bad _ _ _ _ _ _ (rw (c .before .stage2 .given .1) at (start .pre)))
 
 pub feed-spec : {M : Type 1} → statement M
 feed-spec =
     tie.close
     (tie.spec
-    enum-told
-    open-requires
-    enum-known-stage
+    (λ c. search needs)
+    (λ c κs. search needs)
+    (λ c. search needs)
     continue-with-requires
-    enum-known-stage-2
+    (λ c. search needs)
     returns
-    same-length
-    same-length-2
-    same-length-3
+    (λ c. search needs)
+    (λ c. search needs)
+    (λ c. search needs)
     returns-2
     returns-3)

@@ -3,8 +3,5 @@ use borrow.Author.Needs.{needs}
 use Rattle.case_reader.proofs.line.in_space.Statement.{statement}
 use Rattle.case_reader.proofs.line.in_space.Tie as tie
 
-returns : tie.Need-returns
-returns c = rw (c .within .ensures, c .before .length-of .ensures)
-
 pub in-space-spec : {M : Type 1} → statement M
-in-space-spec = tie.close (tie.spec (λ c κs. search needs) (λ c κs. search needs) returns)
+in-space-spec = tie.close (tie.spec (λ c κs. search needs) (λ c κs. search needs) (λ c. cc))

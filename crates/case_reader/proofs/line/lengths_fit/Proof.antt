@@ -6,7 +6,7 @@ use Rattle.case_reader.proofs.line.lengths_fit.Tie as tie
 
 returns : tie.Need-returns
 unfolding lengthsFit
-returns c = rw (c .both2 .ensures, c .before .before .both .ensures)
+returns c = cc
 
 pub lengths-fit-spec : {M : Type 1} → statement M
 lengths-fit-spec = tie.close (tie.spec (λ c κs. search needs) (λ c κs. search needs) returns)

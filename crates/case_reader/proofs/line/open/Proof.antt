@@ -6,30 +6,18 @@ use borrow.Author.Needs.{needs}
 use Rattle.case_reader.proofs.line.open.Statement.{statement}
 use Rattle.case_reader.proofs.line.open.Tie as tie
 
-frame-of-requires : tie.Need-frame-of-requires
-frame-of-requires c κs = search needs
-
-enum-known-settings : tie.Need-enum-known-settings
-enum-known-settings c = search needs
-
-lengths-fit-requires : tie.Need-lengths-fit-requires
-lengths-fit-requires c κs = search needs
-
 returns : tie.Need-returns
-returns c = λ m ls ws h. open-case _ _ (c .before .before .before .before .before .frame-of .ensures) m ls ws h _ _ _ (c .before .before .before .settings .given .1) (sym (c .before .lengths-fit .ensures) ∙ c .if1 .taken)
-
-enum-told : tie.Need-enum-told
-enum-told c = search needs
-
-enum-told-2 : tie.Need-enum-told-2
-enum-told-2 c = search needs
-
-enum-told-3 : tie.Need-enum-told-3
-enum-told-3 c = search needs
+returns c =
+    let at-match = c .before .before .before .before in
+    let at-frame-of = at-match .before in
+    λ m ls ws h. open-case _ _ (at-frame-of .frame-of .ensures) m ls ws h _ _ _ (c .before .before .before .settings .given .1) (sym (c .before .lengths-fit .ensures) ∙ c .if1 .taken)
 
 returns-2 : tie.Need-returns-2
 unfolding opened
-returns-2 c = λ m ls ws h. open-bad _ _ (c .before .before .before .before .before .frame-of .ensures) m ls ws h (rw (c .before .before .before .settings .given .1, sym (c .before .lengths-fit .ensures) ∙ c .if1 .left))
+returns-2 c =
+    let at-match = c .before .before .before .before in
+    let at-frame-of = at-match .before in
+    λ m ls ws h. open-bad _ _ (at-frame-of .frame-of .ensures) m ls ws h (rw (c .before .before .before .settings .given .1, sym (c .before .lengths-fit .ensures) ∙ c .if1 .left))
 
 returns-3 : tie.Need-returns-3
 unfolding opened
@@ -47,13 +35,13 @@ pub open-spec : {M : Type 1} → statement M
 open-spec =
     tie.close
     (tie.spec
-    frame-of-requires
-    enum-known-settings
-    lengths-fit-requires
+    (λ c κs. search needs)
+    (λ c. search needs)
+    (λ c κs. search needs)
     returns
-    enum-told
-    enum-told-2
-    enum-told-3
+    (λ c. search needs)
+    (λ c. search needs)
+    (λ c. search needs)
     returns-2
     returns-3
     returns-4
