@@ -6,7 +6,8 @@ use native.Mathlib.Nat.{mul-suc, mul-zero}
 use native.Mathlib.Omega.{arith}
 use lib.Dec.{ltb}
 use lib.ListN.{length, getD, drop, length-append, length-take}
-use Rattle.case_printing.specs.Text.{joined, hexText, decimalText, mostDigits, fieldText, fieldLength, reportText, reportLength, wordLine, wordLineLength, logText, bytesText, dumpLine, dumpLength, bytesPerLine, lineCount, lineBytes, spaceLines, blank}
+use Rattle.case_printing.specs.Text.{joined, hexText, decimalText, fieldText, reportText, wordLine, logText, bytesText, dumpLine, lineBytes, spaceLines, blank}
+use Rattle.case_printing.specs.Text.{mostDigits, fieldLength, reportLength, wordLineLength, dumpLength, bytesPerLine, lineCount}
 use Rattle.case_hexadecimal.specs.Digits.{byteDigits}
 use Rattle.case_reader.specs.Lines.{newline}
 use Rattle.machine.proofs.Cases.{either}

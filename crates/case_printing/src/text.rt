@@ -2,7 +2,8 @@
 ghost use mathlib.Core.Path.{_≡_};
 ghost use Prim.Native.Nat.{_+_, _*_, _≤_, _<_, min};
 ghost use lib.ListN.{length};
-ghost use Rattle.case_printing.specs.Text.{digitCode, hexText, decimalText, fieldText, fieldLength, reportText, reportLength, wordLine, wordLineLength, logText, bytesText, dumpLine, dumpLength, bytesPerLine, lineCount, spaceLines};
+ghost use Rattle.case_printing.specs.Text.{digitCode, hexText, decimalText, fieldText, reportText, wordLine, logText, bytesText, dumpLine, spaceLines};
+ghost use Rattle.case_printing.specs.Text.{fieldLength, reportLength, wordLineLength, dumpLength, bytesPerLine, lineCount};
 ghost use Rattle.case_printing.specs.Appended.{Appended};
 ghost use Rattle.case_reader.specs.Limits.{mostCaseBytes};
 use case_frame::BYTES_PLACE;

@@ -1,5 +1,5 @@
 -- The spaces of a case, copied: their lengths, and the run of them.
-use Prim.Native.Nat.{ℕ, _*_}
+use Prim.Native.Nat.{ℕ, _*_, _≤_}
 use mathlib.Core.Path.{_≡_, sym, subst}
 use mathlib.Core.List.{List}
 use native.Mathlib.Omega.{arith}
@@ -23,6 +23,10 @@ pub case-run : (h : Header) (m ls ws : List ℕ) {x y : Memory} {p q : Lengths} 
     → labelledRun (h .settings) (take (wordsPerOperation * h .operations) ws) startIndex (h .budget) (replicate logWords 0) y x ≡ outcome (caseIn h m ls ws)
 unfolding outcome caseIn
 case-run h m ls ws a b c d = rw (a, b, c, d)
+
+-- the front of a buffer with room for a space
+pub front : {n : ℕ} (b : List ℕ) → mostCaseBytes ≡ length b → n ≤ mostCaseBytes → n ≡ length (take n b)
+front {n} b e h = sym (length-take-le n b (omega (arith, e, h)))
 
 -- room for each space
 pub front-lengths : (l : Lengths) → Fits l → (a b c : List ℕ) → mostCaseBytes ≡ length a → mostCaseBytes ≡ length b → mostCaseBytes ≡ length c

@@ -19,7 +19,9 @@ returns-3 c = rw (ne-eqb _ _ (c .before .before .before .if1 .left), ne-eqb _ _ 
 
 returns-4 : tie.Need-returns-4
 unfolding frameBy
-returns-4 c = rw (ne-eqb _ _ (c .before .before .before .before .if1 .left), ne-eqb _ _ (c .before .before .before .if2 .left), ne-eqb _ _ (c .before .before .if3 .left), eq-eqb _ _ (c .before .if4 .taken), c .operation-of .ensures)
+returns-4 c =
+    let at-3 = c .before .before in
+    rw (ne-eqb _ _ (at-3 .before .before .if1 .left), ne-eqb _ _ (at-3 .before .if2 .left), ne-eqb _ _ (at-3 .if3 .left), eq-eqb _ _ (c .before .if4 .taken), c .operation-of .ensures)
 
 returns-5 : tie.Need-returns-5
 unfolding frameBy

@@ -17,10 +17,14 @@ abbrev μ-loop : tie.MeasureT-loop
 μ-loop s i₀ i = length s - i
 
 returns : tie.Need-returns Inv-loop μ-loop
-returns c = digits-stop _ (c .before .before .before .before .loop .i) (search needs) (omega (arith, c .if1 .taken, c .before .digit .ensures)) ∙ sym (c .before .before .before .before .loop .inv .1)
+returns c =
+    let l = c .before .before .before .before .loop in
+    digits-stop _ (l .i) (search needs) (omega (arith, c .if1 .taken, c .before .digit .ensures)) ∙ sym (l .inv .1)
 
 loop-again : tie.Need-loop-again Inv-loop μ-loop
-loop-again c = (search needs, c .before .before .before .before .loop .inv .1 ∙ digits-more _ (c .before .before .before .before .loop .i) (search needs) (omega (arith, c .if1 .left, c .before .digit .ensures)))
+loop-again c =
+    let l = c .before .before .before .before .loop in
+    (search needs, l .inv .1 ∙ digits-more _ (l .i) (search needs) (omega (arith, c .if1 .left, c .before .digit .ensures)))
 
 pub all-digits-spec : {M : Type 1} → statement M
 all-digits-spec =

@@ -19,7 +19,9 @@ returns-3 c = rw (le-ltb _ _ (c .before .before .if1 .left), le-ltb _ _ (c .befo
 
 returns-4 : tie.Need-returns-4
 unfolding digitOf
-returns-4 c = rw (le-ltb _ _ (c .before .before .before .before .if1 .left), le-ltb _ _ (c .before .before .before .if2 .left), le-ltb _ _ (c .before .before .if3 .left), lt-ltb _ _ (c .before .if4 .taken), c .wide2 .ensures)
+returns-4 c =
+    let at-3 = c .before .before in
+    rw (le-ltb _ _ (at-3 .before .before .if1 .left), le-ltb _ _ (at-3 .before .if2 .left), le-ltb _ _ (at-3 .if3 .left), lt-ltb _ _ (c .before .if4 .taken), c .wide2 .ensures)
 
 returns-5 : tie.Need-returns-5
 unfolding digitOf

@@ -13,10 +13,12 @@ put-outcome-requires c κs =
     let at-ram = at-register-labels .before .before .before .before in
     let at-unique = at-ram .before .before .before .before in
     let at-labelled-run = at-unique .before in
-    let at-run = at-labelled-run in
-    let start = at-run .before .before .before .before .before .before .before .before .before .before .before .before .before .before .before .before in
-    let l = logged-in _ _ _ _ _ (at-run .labelled-run .ensures) in
-    let k = at-run .labelled-run .kept .1 .1 .1 .1 in
+    let at-args = at-labelled-run .before .before .before .before in
+    let at-log = at-args .before .before .before .before in
+    let at-known = at-log .before .before .before .before in
+    let start = at-known .before .before .before .before in
+    let l = logged-in _ _ _ _ _ (at-labelled-run .labelled-run .ensures) in
+    let k = at-labelled-run .labelled-run .kept .1 .1 .1 .1 in
     let kl = k .1 .1 .1 in
     (l .0, (l .1, (kept-fits _ _ _ _ _ _ (start .pre .0) (k .0) (k .1 .0) (k .1 .1 .0), (kept-fits _ _ _ _ _ _ (start .pre .1 .0) (kl .0) (kl .1 .0) (kl .1 .1 .0), start .pre .1 .1))))
 

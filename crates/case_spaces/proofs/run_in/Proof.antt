@@ -47,7 +47,12 @@ print-run-requires c κs =
     let at-slice-known3 = at-slice-known7 .before .before .before .before in
     let at-shared-slice-known2 = at-slice-known3 .before .before .before .before in
     let start = at-shared-slice-known2 .before .before in
-    let s = fits-as _ _ (start .pre .1 .0) (start .pre .0 .stageFits .lengths) in let t = fits-as _ _ (start .pre .1 .1 .0) (start .pre .0 .stageFits .lengths) in (kept-fits _ _ _ _ _ _ s (at-fill .fill .kept .1 .0) (at-fill .fill .kept .1 .1 .0) (at-fill .fill .kept .1 .1 .1 .0), (kept-fits _ _ _ _ _ _ t (at-fill2 .fill2 .kept .1 .0) (at-fill2 .fill2 .kept .1 .1 .0) (at-fill2 .fill2 .kept .1 .1 .1 .0), start .pre .1 .1 .1))
+    let fits = start .pre .0 .stageFits .lengths in
+    let k = at-fill .fill .kept .1 in
+    let l = at-fill2 .fill2 .kept .1 in
+    let memory = kept-fits _ _ _ _ _ _ (fits-as _ _ (start .pre .1 .0) fits) (k .0) (k .1 .0) (k .1 .1 .0) in
+    let labels = kept-fits _ _ _ _ _ _ (fits-as _ _ (start .pre .1 .1 .0) fits) (l .0) (l .1 .0) (l .1 .1 .0) in
+    (memory, (labels, start .pre .1 .1 .1))
 
 same-length : tie.Need-same-length
 same-length c =

@@ -16,7 +16,8 @@ put-space-requires-2 : tie.Need-put-space-requires-2
 unfolding lengthsOf
 put-space-requires-2 c κs =
     let at-1 = c .before .before .before in
-    let start = at-1 .before .before .before .before .before .before in
+    let at-known = at-1 .before .before .before .before in
+    let start = at-known .before .before in
     let p = past-space _ _ _ (at-1 .put-space .ensures) in
     let fits = start .pre .0 in
     omega (arith, p, fits .unique, fits .register, start .pre .1)
@@ -26,7 +27,8 @@ unfolding lengthsOf
 put-space-requires-3 c κs =
     let at-2 = c .before .before .before in
     let at-1 = at-2 .before .before .before .before in
-    let start = at-1 .before .before .before .before .before .before in
+    let at-known = at-1 .before .before .before .before in
+    let start = at-known .before .before in
     let p = past-space _ _ _ (at-1 .put-space .ensures) in
     let q = past-space _ _ _ (at-2 .put-space2 .ensures) in
     let fits = start .pre .0 in

@@ -15,7 +15,9 @@ put-log-requires c κs =
     let at-shared-slice-known5 = at-put-report .before .before .before .before in
     let at-shared-slice-known = at-shared-slice-known5 .before .before .before .before in
     let start = at-shared-slice-known .before .before in
-    let p = past-report _ _ _ _ _ (at-put-report .put-report .ensures) in omega (arith, p .0, p .1, start .pre .0, start .pre .1 .0, start .pre .1 .1 .1 .1, length-take-le (start .args .report .logged) (start .args .log .now) (start .pre .0))
+    let p = past-report _ _ _ _ _ (at-put-report .put-report .ensures) in
+    let written = length-take-le (start .args .report .logged) (start .args .log .now) (start .pre .0) in
+    omega (arith, p, written, start .pre)
 
 put-memory-requires : tie.Need-put-memory-requires
 put-memory-requires c κs =
@@ -24,7 +26,10 @@ put-memory-requires c κs =
     let at-shared-slice-known5 = at-put-report .before .before .before .before in
     let at-shared-slice-known = at-shared-slice-known5 .before .before .before .before in
     let start = at-shared-slice-known .before .before in
-    let p = past-report _ _ _ _ _ (at-put-report .put-report .ensures) in let q = past-log _ (c .before .before .before .put-log .ensures) in (start .pre .1 .1 .0, omega (arith, p .0, p .1, q .0, q .1, start .pre .0, start .pre .1 .0, start .pre .1 .1 .1 .1, length-take-le (start .args .report .logged) (start .args .log .now) (start .pre .0)))
+    let p = past-report _ _ _ _ _ (at-put-report .put-report .ensures) in
+    let q = past-log _ (c .before .before .before .put-log .ensures) in
+    let written = length-take-le (start .args .report .logged) (start .args .log .now) (start .pre .0) in
+    (start .pre .1 .1 .0, omega (arith, p, q, written, start .pre))
 
 put-memory-requires-2 : tie.Need-put-memory-requires-2
 put-memory-requires-2 c κs =
@@ -35,7 +40,11 @@ put-memory-requires-2 c κs =
     let at-shared-slice-known5 = at-put-report .before .before .before .before in
     let at-shared-slice-known = at-shared-slice-known5 .before .before .before .before in
     let start = at-shared-slice-known .before .before in
-    let p = past-report _ _ _ _ _ (at-put-report .put-report .ensures) in let q = past-log _ (at-put-log .put-log .ensures) in let r = past-memory _ _ (start .pre .1 .1 .0) (c .before .before .before .put-memory .ensures) in (start .pre .1 .1 .1 .0, omega (arith, p .0, p .1, q .0, q .1, r .0, r .1, start .pre .0, start .pre .1 .0, start .pre .1 .1 .1 .1, length-take-le (start .args .report .logged) (start .args .log .now) (start .pre .0)))
+    let p = past-report _ _ _ _ _ (at-put-report .put-report .ensures) in
+    let q = past-log _ (at-put-log .put-log .ensures) in
+    let r = past-memory _ _ (start .pre .1 .1 .0) (c .before .before .before .put-memory .ensures) in
+    let written = length-take-le (start .args .report .logged) (start .args .log .now) (start .pre .0) in
+    (start .pre .1 .1 .1 .0, omega (arith, p, q, r, written, start .pre))
 
 returns : tie.Need-returns
 unfolding outcomeText reportLine

@@ -26,138 +26,46 @@ abbrev put-decimal-below : ℕ → In 1 put-decimal-kinds.ps
 put-decimal-below t =
     and 1 put-decimal-kinds.ps (falls 1 put-decimal-kinds.ps _<_ μ-put-decimal t) put-decimal.Pre
 
-put-decimal-returns : (t : ℕ) → put-decimal-lts.Need-returns (
-  digit-code-reads.Asked,
-  digit-code-reads.Learnt,
-  put-decimal-below t,
-  put-decimal.Post,
-) (put-decimal-at t) put-decimal.Post
+put-decimal-returns : (t : ℕ) → put-decimal-lts.Need-returns (digit-code-reads.Asked, digit-code-reads.Learnt, put-decimal-below t, put-decimal.Post) (put-decimal-at t) put-decimal.Post
 unfolding decimalText
 put-decimal-returns t c = rw (c .if1 .taken) (put-none _ _ (omega arith))
 
-put-decimal-digit-code-requires : (t : ℕ) → put-decimal-lts.Need-digit-code-requires (
-  digit-code-reads.Asked,
-  digit-code-reads.Learnt,
-  put-decimal-below t,
-  put-decimal.Post,
-) (put-decimal-at t) put-decimal.Post
-put-decimal-digit-code-requires t c κs = search needs
-
-put-decimal-slice-write-out : (t : ℕ) → put-decimal-lts.Need-slice-write-out (
-  digit-code-reads.Asked,
-  digit-code-reads.Learnt,
-  put-decimal-below t,
-  put-decimal.Post,
-) (put-decimal-at t) put-decimal.Post
+put-decimal-slice-write-out : (t : ℕ) → put-decimal-lts.Need-slice-write-out (digit-code-reads.Asked, digit-code-reads.Learnt, put-decimal-below t, put-decimal.Post) (put-decimal-at t) put-decimal.Post
 put-decimal-slice-write-out t c = omega (arith, c .before .before .before .before .pre .1, c .before .before .if1 .left)
 
-put-decimal-add-result : (t : ℕ) → put-decimal-lts.Need-add-result (
-  digit-code-reads.Asked,
-  digit-code-reads.Learnt,
-  put-decimal-below t,
-  put-decimal.Post,
-) (put-decimal-at t) put-decimal.Post
-put-decimal-add-result t c = search needs
-
-put-decimal-returns-2 : (t : ℕ) → put-decimal-lts.Need-returns-2 (
-  digit-code-reads.Asked,
-  digit-code-reads.Learnt,
-  put-decimal-below t,
-  put-decimal.Post,
-) (put-decimal-at t) put-decimal.Post
+put-decimal-returns-2 : (t : ℕ) → put-decimal-lts.Need-returns-2 (digit-code-reads.Asked, digit-code-reads.Learnt, put-decimal-below t, put-decimal.Post) (put-decimal-at t) put-decimal.Post
 put-decimal-returns-2 t c =
     let a = c .before .before .before .before .args in
     rw (← (decimal-small (a .k) (a .n) (omega (arith, c .before .before .if1 .left)) (omega (arith, c .before .if2 .taken))), ← (c .digit-code .ensures))
     (put-one _ _ _ (put-decimal-slice-write-out t c))
 
-put-decimal-same-length : (t : ℕ) → put-decimal-lts.Need-same-length (
-  digit-code-reads.Asked,
-  digit-code-reads.Learnt,
-  put-decimal-below t,
-  put-decimal.Post,
-) (put-decimal-at t) put-decimal.Post
-put-decimal-same-length t c = put-decimal-returns-2 t c .long
-
-put-decimal-sub-put-decimal : (t : ℕ) → put-decimal-lts.Need-sub-put-decimal (
-  digit-code-reads.Asked,
-  digit-code-reads.Learnt,
-  put-decimal-below t,
-  put-decimal.Post,
-) (put-decimal-at t) put-decimal.Post
-put-decimal-sub-put-decimal t c = search needs
-
-put-decimal-put-decimal-requires : (t : ℕ) → put-decimal-lts.Need-put-decimal-requires (
-  digit-code-reads.Asked,
-  digit-code-reads.Learnt,
-  put-decimal-below t,
-  put-decimal.Post,
-) (put-decimal-at t) put-decimal.Post
-put-decimal-put-decimal-requires t c κs = (omega (arith, c .before .before .before .before .pre .0, c .before .before .if1 .left), omega (arith, c .before .before .before .before .pre .1))
-
-put-decimal-digit-code-requires-2 : (t : ℕ) → put-decimal-lts.Need-digit-code-requires-2 (
-  digit-code-reads.Asked,
-  digit-code-reads.Learnt,
-  put-decimal-below t,
-  put-decimal.Post,
-) (put-decimal-at t) put-decimal.Post
-put-decimal-digit-code-requires-2 t c κs = search needs
-
-put-decimal-slice-write-out-2 : (t : ℕ) → put-decimal-lts.Need-slice-write-out-2 (
-  digit-code-reads.Asked,
-  digit-code-reads.Learnt,
-  put-decimal-below t,
-  put-decimal.Post,
-) (put-decimal-at t) put-decimal.Post
+put-decimal-slice-write-out-2 : (t : ℕ) → put-decimal-lts.Need-slice-write-out-2 (digit-code-reads.Asked, digit-code-reads.Learnt, put-decimal-below t, put-decimal.Post) (put-decimal-at t) put-decimal.Post
 put-decimal-slice-write-out-2 t c =
     let higher = past-decimal _ _ (c .before .before .before .put-decimal .ensures) in
-    omega (arith, higher, c .before .before .before .before .before .before .before .before .pre .1, c .before .before .before .before .before .before .if1 .left)
+    omega (arith, higher)
 
-put-decimal-add-result-2 : (t : ℕ) → put-decimal-lts.Need-add-result-2 (
-  digit-code-reads.Asked,
-  digit-code-reads.Learnt,
-  put-decimal-below t,
-  put-decimal.Post,
-) (put-decimal-at t) put-decimal.Post
-put-decimal-add-result-2 t c = omega (arith, put-decimal-slice-write-out-2 t c)
-
-put-decimal-returns-3 : (t : ℕ) → put-decimal-lts.Need-returns-3 (
-  digit-code-reads.Asked,
-  digit-code-reads.Learnt,
-  put-decimal-below t,
-  put-decimal.Post,
-) (put-decimal-at t) put-decimal.Post
+put-decimal-returns-3 : (t : ℕ) → put-decimal-lts.Need-returns-3 (digit-code-reads.Asked, digit-code-reads.Learnt, put-decimal-below t, put-decimal.Post) (put-decimal-at t) put-decimal.Post
 put-decimal-returns-3 t c =
-    let a = c .before .before .before .before .before .before .before .before .args in
-    rw (← (decimal-more (a .k) (a .n) (omega (arith, c .before .before .before .before .before .before .if1 .left)) (omega (arith, c .before .before .before .before .before .if2 .left))), ← (c .digit-code2 .ensures))
+    let at-put = c .before .before .before in
+    let at-test = at-put .before .before in
+    let a = at-test .before .before .before .args in
+    rw (← (decimal-more (a .k) (a .n) (omega (arith, at-test .before .if1 .left)) (omega (arith, at-test .if2 .left))), ← (c .digit-code2 .ensures))
     (then-one (c .before .before .before .put-decimal .ensures) _ (put-decimal-slice-write-out-2 t c))
 
-put-decimal-same-length-2 : (t : ℕ) → put-decimal-lts.Need-same-length-2 (
-  digit-code-reads.Asked,
-  digit-code-reads.Learnt,
-  put-decimal-below t,
-  put-decimal.Post,
-) (put-decimal-at t) put-decimal.Post
-put-decimal-same-length-2 t c = put-decimal-returns-3 t c .long
-
 pub +put-decimal-spec : {M : Type 1} → statement M
-+put-decimal-spec = close μ-put-decimal λ t. put-decimal-lts.spec (
-  digit-code-reads.Asked,
-  digit-code-reads.Learnt,
-  put-decimal-below t,
-  put-decimal.Post,
-)
++put-decimal-spec = close μ-put-decimal λ t. put-decimal-lts.spec (digit-code-reads.Asked, digit-code-reads.Learnt, put-decimal-below t, put-decimal.Post)
     (put-decimal-at t)
     put-decimal.Post
     (put-decimal-returns t)
-    (put-decimal-digit-code-requires t)
+    (λ c κs. search needs)
     (put-decimal-slice-write-out t)
-    (put-decimal-add-result t)
-    (put-decimal-same-length t)
+    (λ c. search needs)
+    (λ c. put-decimal-returns-2 t c .long)
     (put-decimal-returns-2 t)
-    (put-decimal-sub-put-decimal t)
-    (put-decimal-put-decimal-requires t)
-    (put-decimal-digit-code-requires-2 t)
+    (λ c. search needs)
+    (λ c κs. (omega (arith, c .before .before .before .before .pre .0, c .before .before .if1 .left), omega (arith, c .before .before .before .before .pre .1)))
+    (λ c κs. search needs)
     (put-decimal-slice-write-out-2 t)
-    (put-decimal-add-result-2 t)
-    (put-decimal-same-length-2 t)
+    (λ c. omega (arith, put-decimal-slice-write-out-2 t c))
+    (λ c. put-decimal-returns-3 t c .long)
     (put-decimal-returns-3 t)

@@ -24,90 +24,32 @@ put-hex-at t = and 1 put-hex-kinds.ps (is 1 put-hex-kinds.ps μ-put-hex t) put-h
 abbrev put-hex-below : ℕ → In 1 put-hex-kinds.ps
 put-hex-below t = and 1 put-hex-kinds.ps (falls 1 put-hex-kinds.ps _<_ μ-put-hex t) put-hex.Pre
 
-put-hex-returns : (t : ℕ) → put-hex-lts.Need-returns (
-  put-hex-below t,
-  put-hex.Post,
-  digit-code-reads.Asked,
-  digit-code-reads.Learnt,
-) (put-hex-at t) put-hex.Post
+put-hex-returns : (t : ℕ) → put-hex-lts.Need-returns (put-hex-below t, put-hex.Post, digit-code-reads.Asked, digit-code-reads.Learnt) (put-hex-at t) put-hex.Post
 unfolding hexText
 put-hex-returns t c = rw (c .if1 .taken) (put-none _ _ (omega arith))
 
-put-hex-sub-put-hex : (t : ℕ) → put-hex-lts.Need-sub-put-hex (
-  put-hex-below t,
-  put-hex.Post,
-  digit-code-reads.Asked,
-  digit-code-reads.Learnt,
-) (put-hex-at t) put-hex.Post
-put-hex-sub-put-hex t c = search needs
-
-put-hex-put-hex-requires : (t : ℕ) → put-hex-lts.Need-put-hex-requires (
-  put-hex-below t,
-  put-hex.Post,
-  digit-code-reads.Asked,
-  digit-code-reads.Learnt,
-) (put-hex-at t) put-hex.Post
-put-hex-put-hex-requires t c κs = (omega (arith, c .before .before .before .pre .0, c .before .if1 .left), omega (arith, c .before .before .before .pre .1))
-
-put-hex-digit-code-requires : (t : ℕ) → put-hex-lts.Need-digit-code-requires (
-  put-hex-below t,
-  put-hex.Post,
-  digit-code-reads.Asked,
-  digit-code-reads.Learnt,
-) (put-hex-at t) put-hex.Post
-put-hex-digit-code-requires t c κs = search needs
-
-put-hex-slice-write-out : (t : ℕ) → put-hex-lts.Need-slice-write-out (
-  put-hex-below t,
-  put-hex.Post,
-  digit-code-reads.Asked,
-  digit-code-reads.Learnt,
-) (put-hex-at t) put-hex.Post
+put-hex-slice-write-out : (t : ℕ) → put-hex-lts.Need-slice-write-out (put-hex-below t, put-hex.Post, digit-code-reads.Asked, digit-code-reads.Learnt) (put-hex-at t) put-hex.Post
 put-hex-slice-write-out t c =
     let higher = past-hex _ _ (c .before .before .before .put-hex .ensures) in
-    omega (arith, higher, c .before .before .before .before .before .before .before .pre .1, c .before .before .before .before .before .if1 .left)
+    omega (arith, higher)
 
-put-hex-add-result : (t : ℕ) → put-hex-lts.Need-add-result (
-  put-hex-below t,
-  put-hex.Post,
-  digit-code-reads.Asked,
-  digit-code-reads.Learnt,
-) (put-hex-at t) put-hex.Post
-put-hex-add-result t c = omega (arith, put-hex-slice-write-out t c)
-
-put-hex-returns-2 : (t : ℕ) → put-hex-lts.Need-returns-2 (
-  put-hex-below t,
-  put-hex.Post,
-  digit-code-reads.Asked,
-  digit-code-reads.Learnt,
-) (put-hex-at t) put-hex.Post
+put-hex-returns-2 : (t : ℕ) → put-hex-lts.Need-returns-2 (put-hex-below t, put-hex.Post, digit-code-reads.Asked, digit-code-reads.Learnt) (put-hex-at t) put-hex.Post
 put-hex-returns-2 t c =
-    let a = c .before .before .before .before .before .before .before .args in
-    rw (← (hex-more (a .k) (a .n) (omega (arith, c .before .before .before .before .before .if1 .left))), ← (c .digit-code .ensures))
+    let at-put = c .before .before .before in
+    let at-test = at-put .before .before in
+    let a = at-test .before .before .args in
+    rw (← (hex-more (a .k) (a .n) (omega (arith, at-test .if1 .left))), ← (c .digit-code .ensures))
     (then-one (c .before .before .before .put-hex .ensures) _ (put-hex-slice-write-out t c))
 
-put-hex-same-length : (t : ℕ) → put-hex-lts.Need-same-length (
-  put-hex-below t,
-  put-hex.Post,
-  digit-code-reads.Asked,
-  digit-code-reads.Learnt,
-) (put-hex-at t) put-hex.Post
-put-hex-same-length t c = put-hex-returns-2 t c .long
-
 pub +put-hex-spec : {M : Type 1} → statement M
-+put-hex-spec = close μ-put-hex λ t. put-hex-lts.spec (
-  put-hex-below t,
-  put-hex.Post,
-  digit-code-reads.Asked,
-  digit-code-reads.Learnt,
-)
++put-hex-spec = close μ-put-hex λ t. put-hex-lts.spec (put-hex-below t, put-hex.Post, digit-code-reads.Asked, digit-code-reads.Learnt)
     (put-hex-at t)
     put-hex.Post
     (put-hex-returns t)
-    (put-hex-sub-put-hex t)
-    (put-hex-put-hex-requires t)
-    (put-hex-digit-code-requires t)
+    (λ c. search needs)
+    (λ c κs. (omega (arith, c .before .before .before .pre .0, c .before .if1 .left), omega (arith, c .before .before .before .pre .1)))
+    (λ c κs. search needs)
     (put-hex-slice-write-out t)
-    (put-hex-add-result t)
-    (put-hex-same-length t)
+    (λ c. omega (arith, put-hex-slice-write-out t c))
+    (λ c. put-hex-returns-2 t c .long)
     (put-hex-returns-2 t)

@@ -47,4 +47,17 @@ returns c =
     rw (← e) (c .before .loop .inv .1)
 
 pub put-bytes-spec : {M : Type 1} → statement M
-put-bytes-spec = tie.close (tie.spec Inv-loop μ-loop (λ c. (omega arith, joined-none _ _ _ (omega arith))) (λ c. search needs) (λ c κs. search needs) put-hex-requires (λ c. search needs) (λ c. search needs) loop-again (λ c. search needs) returns)
+put-bytes-spec =
+    tie.close
+    (tie.spec
+    Inv-loop
+    μ-loop
+    (λ c. (omega arith, joined-none _ _ _ (omega arith)))
+    (λ c. search needs)
+    (λ c κs. search needs)
+    put-hex-requires
+    (λ c. search needs)
+    (λ c. search needs)
+    loop-again
+    (λ c. search needs)
+    returns)

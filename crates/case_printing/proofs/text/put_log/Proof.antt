@@ -37,4 +37,17 @@ returns c =
     rw (← e) (c .before .loop .inv .1)
 
 pub put-log-spec : {M : Type 1} → statement M
-put-log-spec = tie.close (tie.spec Inv-loop μ-loop (λ c. (omega arith, joined-none _ _ _ (omega arith))) (λ c. search needs) (λ c. search needs) put-word-requires (λ c. search needs) (λ c. search needs) (λ c. search (needs, joined-then)) (λ c. search needs) returns)
+put-log-spec =
+    tie.close
+    (tie.spec
+    Inv-loop
+    μ-loop
+    (λ c. (omega arith, joined-none _ _ _ (omega arith)))
+    (λ c. search needs)
+    (λ c. search needs)
+    put-word-requires
+    (λ c. search needs)
+    (λ c. search needs)
+    (λ c. search (needs, joined-then))
+    (λ c. search needs)
+    returns)

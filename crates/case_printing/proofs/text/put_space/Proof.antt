@@ -57,4 +57,23 @@ returns c =
     rw (← e) (c .before .loop .inv .2)
 
 pub put-space-spec : {M : Type 1} → statement M
-put-space-spec = tie.close (tie.spec Inv-loop μ-loop (λ c. search needs) (λ c. search needs) (λ c. (omega arith, refl, joined-none _ _ _ (omega arith))) (λ c. search needs) (λ c. search needs) (λ c κs. search needs) (λ c. search needs) (λ c. search needs) (λ c. search needs) put-line-requires (λ c. search needs) (λ c. search needs) loop-again (λ c. search needs) returns)
+put-space-spec =
+    tie.close
+    (tie.spec
+    Inv-loop
+    μ-loop
+    (λ c. search needs)
+    (λ c. search needs)
+    (λ c. (omega arith, refl, joined-none _ _ _ (omega arith)))
+    (λ c. search needs)
+    (λ c. search needs)
+    (λ c κs. search needs)
+    (λ c. search needs)
+    (λ c. search needs)
+    (λ c. search needs)
+    put-line-requires
+    (λ c. search needs)
+    (λ c. search needs)
+    loop-again
+    (λ c. search needs)
+    returns)

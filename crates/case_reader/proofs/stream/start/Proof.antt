@@ -11,7 +11,20 @@ use Rattle.case_reader.proofs.stream.start.Tie as tie
 
 returns : tie.Need-returns
 unfolding progressIn noLine linesRead linesOf restOf
-returns c = record { fits = λ line m ls ws h. record { room = h .lineLength; have = omega arith; sound = record { memoryRoom = h .memoryLength; labelRoom = h .labelLength; wordRoom = h .wordLength; stageFits = (h .memoryZeros, h .labelZeros) } }; read = λ line m ls ws. record { rest = sym (take-nil {A = ℕ} lineRoom); lines = refl } }
+returns c =
+    record {
+      fits = λ line m ls ws h. record {
+        room = h .lineLength;
+        have = omega arith;
+        sound = record {
+          memoryRoom = h .memoryLength;
+          labelRoom = h .labelLength;
+          wordRoom = h .wordLength;
+          stageFits = (h .memoryZeros, h .labelZeros);
+        };
+      };
+      read = λ line m ls ws. record { rest = sym (take-nil {A = ℕ} lineRoom); lines = refl };
+    }
 
 pub start-spec : {M : Type 1} → statement M
 start-spec = tie.close (tie.spec returns)
