@@ -11,7 +11,7 @@ use Rattle.case_printing.proofs.Lengths.{past-decimal}
 use Rattle.case_printing.proofs.text.put_decimal.Reads as put-decimal
 use Rattle.case_printing.proofs.text.put_decimal.Kinds as put-decimal-kinds
 use Rattle.case_printing.proofs.text.+put_decimal.Lts-put_decimal as put-decimal-lts
-use Rattle.case_printing.proofs.text.digit_code.Reads as digit-code-reads
+use Rattle.case_printing.proofs.text.digit_code.Reads as digit-code
 use Rattle.case_printing.proofs.text.+put_decimal.{statement}
 use Rattle.case_printing.proofs.text.+put_decimal.Tie.{close}
 
@@ -26,25 +26,25 @@ abbrev put-decimal-below : ℕ → In 1 put-decimal-kinds.ps
 put-decimal-below t =
     and 1 put-decimal-kinds.ps (falls 1 put-decimal-kinds.ps _<_ μ-put-decimal t) put-decimal.Pre
 
-put-decimal-returns : (t : ℕ) → put-decimal-lts.Need-returns (digit-code-reads.Asked, digit-code-reads.Learnt, put-decimal-below t, put-decimal.Post) (put-decimal-at t) put-decimal.Post
+put-decimal-returns : (t : ℕ) → put-decimal-lts.Need-returns (digit-code.Asked, digit-code.Learnt, put-decimal-below t, put-decimal.Post) (put-decimal-at t) put-decimal.Post
 unfolding decimalText
 put-decimal-returns t c = rw (c .if1 .taken) (put-none _ _ (omega arith))
 
-put-decimal-slice-write-out : (t : ℕ) → put-decimal-lts.Need-slice-write-out (digit-code-reads.Asked, digit-code-reads.Learnt, put-decimal-below t, put-decimal.Post) (put-decimal-at t) put-decimal.Post
+put-decimal-slice-write-out : (t : ℕ) → put-decimal-lts.Need-slice-write-out (digit-code.Asked, digit-code.Learnt, put-decimal-below t, put-decimal.Post) (put-decimal-at t) put-decimal.Post
 put-decimal-slice-write-out t c = omega (arith, c .before .before .before .before .pre .1, c .before .before .if1 .left)
 
-put-decimal-returns-2 : (t : ℕ) → put-decimal-lts.Need-returns-2 (digit-code-reads.Asked, digit-code-reads.Learnt, put-decimal-below t, put-decimal.Post) (put-decimal-at t) put-decimal.Post
+put-decimal-returns-2 : (t : ℕ) → put-decimal-lts.Need-returns-2 (digit-code.Asked, digit-code.Learnt, put-decimal-below t, put-decimal.Post) (put-decimal-at t) put-decimal.Post
 put-decimal-returns-2 t c =
     let a = c .before .before .before .before .args in
     rw (← (decimal-small (a .k) (a .n) (omega (arith, c .before .before .if1 .left)) (omega (arith, c .before .if2 .taken))), ← (c .digit-code .ensures))
     (put-one _ _ _ (put-decimal-slice-write-out t c))
 
-put-decimal-slice-write-out-2 : (t : ℕ) → put-decimal-lts.Need-slice-write-out-2 (digit-code-reads.Asked, digit-code-reads.Learnt, put-decimal-below t, put-decimal.Post) (put-decimal-at t) put-decimal.Post
+put-decimal-slice-write-out-2 : (t : ℕ) → put-decimal-lts.Need-slice-write-out-2 (digit-code.Asked, digit-code.Learnt, put-decimal-below t, put-decimal.Post) (put-decimal-at t) put-decimal.Post
 put-decimal-slice-write-out-2 t c =
     let higher = past-decimal _ _ (c .before .before .before .put-decimal .ensures) in
     omega (arith, higher)
 
-put-decimal-returns-3 : (t : ℕ) → put-decimal-lts.Need-returns-3 (digit-code-reads.Asked, digit-code-reads.Learnt, put-decimal-below t, put-decimal.Post) (put-decimal-at t) put-decimal.Post
+put-decimal-returns-3 : (t : ℕ) → put-decimal-lts.Need-returns-3 (digit-code.Asked, digit-code.Learnt, put-decimal-below t, put-decimal.Post) (put-decimal-at t) put-decimal.Post
 put-decimal-returns-3 t c =
     let at-put = c .before .before .before in
     let at-test = at-put .before .before in
@@ -53,7 +53,7 @@ put-decimal-returns-3 t c =
     (then-one (c .before .before .before .put-decimal .ensures) _ (put-decimal-slice-write-out-2 t c))
 
 pub +put-decimal-spec : {M : Type 1} → statement M
-+put-decimal-spec = close μ-put-decimal λ t. put-decimal-lts.spec (digit-code-reads.Asked, digit-code-reads.Learnt, put-decimal-below t, put-decimal.Post)
++put-decimal-spec = close μ-put-decimal λ t. put-decimal-lts.spec (digit-code.Asked, digit-code.Learnt, put-decimal-below t, put-decimal.Post)
     (put-decimal-at t)
     put-decimal.Post
     (put-decimal-returns t)

@@ -11,7 +11,7 @@ use Rattle.case_printing.proofs.Lengths.{past-hex}
 use Rattle.case_printing.proofs.text.put_hex.Reads as put-hex
 use Rattle.case_printing.proofs.text.put_hex.Kinds as put-hex-kinds
 use Rattle.case_printing.proofs.text.+put_hex.Lts-put_hex as put-hex-lts
-use Rattle.case_printing.proofs.text.digit_code.Reads as digit-code-reads
+use Rattle.case_printing.proofs.text.digit_code.Reads as digit-code
 use Rattle.case_printing.proofs.text.+put_hex.{statement}
 use Rattle.case_printing.proofs.text.+put_hex.Tie.{close}
 
@@ -24,16 +24,16 @@ put-hex-at t = and 1 put-hex-kinds.ps (is 1 put-hex-kinds.ps μ-put-hex t) put-h
 abbrev put-hex-below : ℕ → In 1 put-hex-kinds.ps
 put-hex-below t = and 1 put-hex-kinds.ps (falls 1 put-hex-kinds.ps _<_ μ-put-hex t) put-hex.Pre
 
-put-hex-returns : (t : ℕ) → put-hex-lts.Need-returns (put-hex-below t, put-hex.Post, digit-code-reads.Asked, digit-code-reads.Learnt) (put-hex-at t) put-hex.Post
+put-hex-returns : (t : ℕ) → put-hex-lts.Need-returns (put-hex-below t, put-hex.Post, digit-code.Asked, digit-code.Learnt) (put-hex-at t) put-hex.Post
 unfolding hexText
 put-hex-returns t c = rw (c .if1 .taken) (put-none _ _ (omega arith))
 
-put-hex-slice-write-out : (t : ℕ) → put-hex-lts.Need-slice-write-out (put-hex-below t, put-hex.Post, digit-code-reads.Asked, digit-code-reads.Learnt) (put-hex-at t) put-hex.Post
+put-hex-slice-write-out : (t : ℕ) → put-hex-lts.Need-slice-write-out (put-hex-below t, put-hex.Post, digit-code.Asked, digit-code.Learnt) (put-hex-at t) put-hex.Post
 put-hex-slice-write-out t c =
     let higher = past-hex _ _ (c .before .before .before .put-hex .ensures) in
     omega (arith, higher)
 
-put-hex-returns-2 : (t : ℕ) → put-hex-lts.Need-returns-2 (put-hex-below t, put-hex.Post, digit-code-reads.Asked, digit-code-reads.Learnt) (put-hex-at t) put-hex.Post
+put-hex-returns-2 : (t : ℕ) → put-hex-lts.Need-returns-2 (put-hex-below t, put-hex.Post, digit-code.Asked, digit-code.Learnt) (put-hex-at t) put-hex.Post
 put-hex-returns-2 t c =
     let at-put = c .before .before .before in
     let at-test = at-put .before .before in
@@ -42,7 +42,7 @@ put-hex-returns-2 t c =
     (then-one (c .before .before .before .put-hex .ensures) _ (put-hex-slice-write-out t c))
 
 pub +put-hex-spec : {M : Type 1} → statement M
-+put-hex-spec = close μ-put-hex λ t. put-hex-lts.spec (put-hex-below t, put-hex.Post, digit-code-reads.Asked, digit-code-reads.Learnt)
++put-hex-spec = close μ-put-hex λ t. put-hex-lts.spec (put-hex-below t, put-hex.Post, digit-code.Asked, digit-code.Learnt)
     (put-hex-at t)
     put-hex.Post
     (put-hex-returns t)
