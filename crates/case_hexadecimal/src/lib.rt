@@ -1,6 +1,6 @@
 // Lowercase hexadecimal text.
 ghost use mathlib.Core.Path.{_≡_};
-ghost use Prim.Native.Nat.{_+_, _*_, _≤_, _<_};
+ghost use Prim.Native.Nat.{_+_, _≤_};
 ghost use lib.ListN.{length};
 ghost use Rattle.case_hexadecimal.specs.Digits.{wordDigits, digitOf, allDigits, numberAt};
 use word::bytes::wide;
