@@ -5,6 +5,7 @@ ghost use lib.ListN.{length};
 ghost use Rattle.case_printing.specs.Text.{digitCode, hexText, decimalText, fieldText, reportText, wordLine, logText, bytesText, dumpLine, spaceLines};
 ghost use Rattle.case_printing.specs.Text.{fieldLength, reportLength, wordLineLength, dumpLength, bytesPerLine, lineCount};
 ghost use Rattle.case_printing.specs.Appended.{Appended};
+ghost use Rattle.case_hexadecimal.specs.Digits.{byteDigits};
 ghost use Rattle.case_reader.specs.Limits.{mostCaseBytes};
 use case_frame::BYTES_PLACE;
 use case_hexadecimal::BYTE_DIGITS;
@@ -74,6 +75,7 @@ pub fn put_space(out: &mut [u8], at: usize, kind: u64, space: u64, s: &[u8]) -> 
 fn put_field(out: &mut [u8], at: usize, n: u64, mark: u8) -> usize
     requires { ⌜ at + fieldLength ≤ length (now out) ⌝ }
     ensures { λ r. ⌜ Appended at (now (out .entry)) (fieldText n mark) r (now (out .exit)) ⌝ }
+    ensures { λ r. ⌜ r ≤ at + fieldLength ⌝ }
 {
     let p = put_decimal(out, at, n, MOST_DIGITS);
     out[p] = mark;
@@ -102,8 +104,9 @@ fn put_line(out: &mut [u8], at: usize, kind: u64, space: u64, offset: u64, s: &[
 }
 
 fn put_bytes(out: &mut [u8], at: usize, s: &[u8]) -> usize
-    requires { ⌜ at + 2 * length (now s) ≤ length (now out) ⌝ }
+    requires { ⌜ at + byteDigits * length (now s) ≤ length (now out) ⌝ }
     ensures { λ r. ⌜ Appended at (now (out .entry)) (bytesText (now (s .entry))) r (now (out .exit)) ⌝ }
+    ensures { λ r. ⌜ r ≤ at + byteDigits * length (now (s .entry)) ⌝ }
 {
     let mut p = at;
     let mut i = 0;
@@ -118,6 +121,7 @@ fn put_bytes(out: &mut [u8], at: usize, s: &[u8]) -> usize
 fn put_hex(out: &mut [u8], at: usize, n: u64, k: usize) -> usize
     requires { ⌜ at + k ≤ length (now out) ⌝ }
     ensures { λ r. ⌜ Appended at (now (out .entry)) (hexText k n) r (now (out .exit)) ⌝ }
+    ensures { λ r. ⌜ r ≤ at + k ⌝ }
 {
     if k == 0 {
         return at;

@@ -20,7 +20,7 @@ put-space-requires-2 c κs =
     let start = at-known .before .before in
     let p = past-space _ _ _ (at-1 .put-space .ensures) in
     let fits = start .pre .0 in
-    omega (arith, p, fits .unique, fits .register, start .pre .1)
+    omega (arith, p, fits .unique, fits .register)
 
 put-space-requires-3 : tie.Need-put-space-requires-3
 unfolding lengthsOf
@@ -32,7 +32,7 @@ put-space-requires-3 c κs =
     let p = past-space _ _ _ (at-1 .put-space .ensures) in
     let q = past-space _ _ _ (at-2 .put-space2 .ensures) in
     let fits = start .pre .0 in
-    omega (arith, p, q, fits .unique, fits .register, fits .ram, start .pre .1)
+    omega (arith, p, q, fits .unique, fits .register, fits .ram)
 
 returns : tie.Need-returns
 unfolding memoryText

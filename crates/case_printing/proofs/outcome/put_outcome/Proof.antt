@@ -17,7 +17,7 @@ put-log-requires c κs =
     let start = at-shared-slice-known .before .before in
     let p = past-report _ _ _ _ _ (at-put-report .put-report .ensures) in
     let written = length-take-le (start .args .report .logged) (start .args .log .now) (start .pre .0) in
-    omega (arith, p, written, start .pre)
+    omega (arith, p, written)
 
 put-memory-requires : tie.Need-put-memory-requires
 put-memory-requires c κs =
@@ -29,7 +29,7 @@ put-memory-requires c κs =
     let p = past-report _ _ _ _ _ (at-put-report .put-report .ensures) in
     let q = past-log _ (c .before .before .before .put-log .ensures) in
     let written = length-take-le (start .args .report .logged) (start .args .log .now) (start .pre .0) in
-    (start .pre .1 .1 .0, omega (arith, p, q, written, start .pre))
+    (start .pre .1 .1 .0, omega (arith, p, q, written))
 
 put-memory-requires-2 : tie.Need-put-memory-requires-2
 put-memory-requires-2 c κs =
@@ -44,7 +44,7 @@ put-memory-requires-2 c κs =
     let q = past-log _ (at-put-log .put-log .ensures) in
     let r = past-memory _ _ (start .pre .1 .1 .0) (c .before .before .before .put-memory .ensures) in
     let written = length-take-le (start .args .report .logged) (start .args .log .now) (start .pre .0) in
-    (start .pre .1 .1 .1 .0, omega (arith, p, q, r, written, start .pre))
+    (start .pre .1 .1 .1 .0, omega (arith, p, q, r, written))
 
 returns : tie.Need-returns
 unfolding outcomeText reportLine

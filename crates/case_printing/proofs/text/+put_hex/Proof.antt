@@ -7,7 +7,6 @@ use borrow.Fn.PlainCycle.{Measures, is, falls, and}
 use Rattle.case_printing.specs.Text.{hexText}
 use Rattle.case_printing.proofs.Appending.{put-none, then-one}
 use Rattle.case_printing.proofs.Digits.{hex-more}
-use Rattle.case_printing.proofs.Lengths.{past-hex}
 use Rattle.case_printing.proofs.text.put_hex.Reads as put-hex
 use Rattle.case_printing.proofs.text.put_hex.Kinds as put-hex-kinds
 use Rattle.case_printing.proofs.text.+put_hex.Lts-put_hex as put-hex-lts
@@ -26,12 +25,11 @@ put-hex-below t = and 1 put-hex-kinds.ps (falls 1 put-hex-kinds.ps _<_ μ-put-he
 
 put-hex-returns : (t : ℕ) → put-hex-lts.Need-returns (put-hex-below t, put-hex.Post, digit-code.Asked, digit-code.Learnt) (put-hex-at t) put-hex.Post
 unfolding hexText
-put-hex-returns t c = rw (c .if1 .taken) (put-none _ _ (omega arith))
+put-hex-returns t c = rw (c .if1 .taken) (put-none _ _ (omega arith), omega arith)
 
 put-hex-slice-write-out : (t : ℕ) → put-hex-lts.Need-slice-write-out (put-hex-below t, put-hex.Post, digit-code.Asked, digit-code.Learnt) (put-hex-at t) put-hex.Post
 put-hex-slice-write-out t c =
-    let higher = past-hex _ _ (c .before .before .before .put-hex .ensures) in
-    omega (arith, higher)
+    omega arith
 
 put-hex-returns-2 : (t : ℕ) → put-hex-lts.Need-returns-2 (put-hex-below t, put-hex.Post, digit-code.Asked, digit-code.Learnt) (put-hex-at t) put-hex.Post
 put-hex-returns-2 t c =
@@ -39,7 +37,7 @@ put-hex-returns-2 t c =
     let at-test = at-put .before .before in
     let a = at-test .before .before .args in
     rw (← (hex-more (a .k) (a .n) (omega (arith, at-test .if1 .left))), ← (c .digit-code .ensures))
-    (then-one (c .before .before .before .put-hex .ensures) _ (put-hex-slice-write-out t c))
+    (then-one (c .before .before .before .put-hex .ensures .0) _ (put-hex-slice-write-out t c), omega (arith, at-test .if1 .left))
 
 pub +put-hex-spec : {M : Type 1} → statement M
 +put-hex-spec = close μ-put-hex λ t. put-hex-lts.spec (put-hex-below t, put-hex.Post, digit-code.Asked, digit-code.Learnt)
@@ -51,5 +49,5 @@ pub +put-hex-spec : {M : Type 1} → statement M
     (λ c κs. search needs)
     (put-hex-slice-write-out t)
     (λ c. omega (arith, put-hex-slice-write-out t c))
-    (λ c. put-hex-returns-2 t c .long)
+    (λ c. put-hex-returns-2 t c .0 .long)
     (put-hex-returns-2 t)

@@ -9,7 +9,7 @@ use Rattle.case_hexadecimal.specs.Digits.{byteDigits}
 use Rattle.case_printing.specs.Text.{joined, hexText, bytesText}
 use Rattle.case_printing.specs.Appended.{Appended}
 use Rattle.case_printing.proofs.Appending.{joined-none, joined-then}
-use Rattle.case_printing.proofs.Lengths.{length-hex, past-joined}
+use Rattle.case_printing.proofs.Lengths.{length-hex, past-joined, past-bytes}
 use Rattle.case_printing.proofs.text.put_bytes.Statement.{statement}
 use Rattle.case_printing.proofs.text.put_bytes.Tie as tie
 
@@ -29,7 +29,7 @@ put-hex-requires c κs =
     let l = at-loop .loop in
     let s = start .args .s .now in
     let so-far = past-joined byteDigits (l .i) (digits s) (λ k. omega (arith, length-hex byteDigits (getD s k 0))) (l .inv .1) in
-    omega (arith, so-far, start .pre)
+    omega (arith, so-far)
 
 loop-again : tie.Need-loop-again Inv-loop μ-loop
 loop-again c =
@@ -38,13 +38,15 @@ loop-again c =
     let start = at-loop .before .before .before in
     let l = at-loop .loop in
     let s = start .args .s .now in
-    (search needs, joined-then (l .i) (digits s) (l .inv .1) (rw (← (c .before .before .before .wide .ensures)) (c .before .before .put-hex .ensures)))
+    (search needs, joined-then (l .i) (digits s) (l .inv .1) (rw (← (c .before .before .before .wide .ensures)) (c .before .before .put-hex .ensures .0)))
 
 returns : tie.Need-returns Inv-loop μ-loop
 unfolding bytesText
 returns c =
-    let e : c .before .loop .i ≡ length (c .before .before .before .before .args .s .now) = search needs in
-    rw (← e) (c .before .loop .inv .1)
+    let s = c .before .before .before .before .args .s .now in
+    let e : c .before .loop .i ≡ length s = search needs in
+    let put = rw e at (c .before .loop .inv .1) in
+    (put, past-bytes s put .0)
 
 pub put-bytes-spec : {M : Type 1} → statement M
 put-bytes-spec =

@@ -28,7 +28,7 @@ put-word-requires c κs =
     let l = c .before .before .before .loop in
     let words = start .args .words .now in
     let so-far = past-joined wordLineLength (l .i) (line words) (λ k. omega (arith, length-word (getD words k 0))) (l .inv .1) in
-    omega (arith, so-far, start .pre)
+    omega (arith, so-far)
 
 returns : tie.Need-returns Inv-loop μ-loop
 unfolding logText
