@@ -2,4 +2,3 @@ pub mod Appending
 pub mod Digits
 pub mod Lengths
 pub mod Lines
-pub mod Rooms

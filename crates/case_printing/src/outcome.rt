@@ -75,6 +75,7 @@ fn put_memory(
     requires { ⌜ Fits (lengthsOf (spaces (now unique) (now register) (now ram))) ⌝ }
     requires { ⌜ at + memoryTextRoom ≤ length (now out) ⌝ }
     ensures { λ r. ⌜ Appended at (now (out .entry)) (memoryText kind (spaces (now (unique .entry)) (now (register .entry)) (now (ram .entry)))) r (now (out .exit)) ⌝ }
+    ensures { λ r. ⌜ r ≤ at + memoryTextRoom ⌝ }
 {
     let p = put_space(out, at, kind, 2, unique);
     let q = put_space(out, p, kind, 3, register);

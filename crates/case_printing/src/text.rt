@@ -59,6 +59,7 @@ pub fn put_log(out: &mut [u8], at: usize, words: &[u64]) -> usize
 pub fn put_space(out: &mut [u8], at: usize, kind: u64, space: u64, s: &[u8]) -> usize
     requires { ⌜ (length (now s) ≤ mostCaseBytes) × (at + dumpLength bytesPerLine * lineCount (length (now s)) ≤ length (now out)) ⌝ }
     ensures { λ r. ⌜ Appended at (now (out .entry)) (spaceLines kind space (now (s .entry))) r (now (out .exit)) ⌝ }
+    ensures { λ r. ⌜ r ≤ at + dumpLength bytesPerLine * lineCount (length (now (s .entry))) ⌝ }
 {
     let lines = (s.len() + (BYTES_PER_LINE - 1)) / BYTES_PER_LINE;
     let mut p = at;

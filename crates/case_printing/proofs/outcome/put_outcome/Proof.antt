@@ -1,5 +1,4 @@
 -- `case_printing::outcome::put_outcome` meets its contract.
-use Rattle.case_printing.proofs.Rooms.{past-memory}
 use native.Mathlib.Omega.{arith}
 use Rattle.case_printing.proofs.Appending.{then}
 use Rattle.case_printing.proofs.Lengths.{past-report, past-log}
@@ -42,9 +41,8 @@ put-memory-requires-2 c κs =
     let start = at-shared-slice-known .before .before in
     let p = past-report _ _ _ _ _ (at-put-report .put-report .ensures) in
     let q = past-log _ (at-put-log .put-log .ensures) in
-    let r = past-memory _ _ (start .pre .1 .1 .0) (c .before .before .before .put-memory .ensures) in
     let written = length-take-le (start .args .report .logged) (start .args .log .now) (start .pre .0) in
-    (start .pre .1 .1 .1 .0, omega (arith, p, q, r, written))
+    (start .pre .1 .1 .1 .0, omega (arith, p, q, c .before .before .before .put-memory .ensures, written))
 
 returns : tie.Need-returns
 unfolding outcomeText reportLine
@@ -54,7 +52,7 @@ returns c =
     let at-put-log = at-put-memory .before .before .before .before in
     let at-out = at-put-log .before .before .before .before in
     let at-put-report = at-out .before in
-    then (then (then (at-put-report .put-report .ensures) (at-put-log .put-log .ensures)) (at-put-memory .put-memory .ensures)) (c .before .before .put-memory2 .ensures)
+    then (then (then (at-put-report .put-report .ensures) (at-put-log .put-log .ensures)) (at-put-memory .put-memory .ensures .0)) (c .before .before .put-memory2 .ensures .0)
 
 pub put-outcome-spec : {M : Type 1} → statement M
 put-outcome-spec =

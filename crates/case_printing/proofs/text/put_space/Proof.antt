@@ -8,7 +8,7 @@ use lib.ListN.{length}
 use Rattle.case_printing.specs.Text.{joined, dumpLine, dumpLength, bytesPerLine, lineCount, lineBytes, spaceLines}
 use Rattle.case_printing.specs.Appended.{Appended}
 use Rattle.case_printing.proofs.Appending.{joined-none, joined-then}
-use Rattle.case_printing.proofs.Lengths.{length-line-bytes, length-line-most, past-joined}
+use Rattle.case_printing.proofs.Lengths.{length-line-bytes, length-line-most, past-joined, past-space}
 use Rattle.case_printing.proofs.Lines.{line-part}
 use Rattle.case_printing.proofs.text.put_space.Statement.{statement}
 use Rattle.case_printing.proofs.text.put_space.Tie as tie
@@ -26,8 +26,7 @@ abbrev μ-loop : tie.MeasureT-loop
 put-line-requires : tie.Need-put-line-requires Inv-loop μ-loop
 put-line-requires c κs =
     let at-loop = c .before .before .before .before in
-    let start′ = at-loop .before .before .before in
-    let start = start′ in
+    let start = at-loop .before .before .before in
     let a = start .args in
     let s = a .s .now in
     let l = at-loop .loop in
@@ -53,8 +52,10 @@ loop-again c =
 returns : tie.Need-returns Inv-loop μ-loop
 unfolding spaceLines
 returns c =
-    let e : c .before .loop .k ≡ lineCount (length (c .before .before .before .before .args .s .now)) = search needs in
-    rw (← e) (c .before .loop .inv .2)
+    let a = c .before .before .before .before .args in
+    let e : c .before .loop .k ≡ lineCount (length (a .s .now)) = search needs in
+    let put = rw e at (c .before .loop .inv .2) in
+    (put, past-space (a .kind) (a .space) (a .s .now) put .0)
 
 pub put-space-spec : {M : Type 1} → statement M
 put-space-spec =
