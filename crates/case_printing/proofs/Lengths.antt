@@ -84,9 +84,6 @@ module _ {at : ℕ} {o : List ℕ} {r : ℕ} {o₁ : List ℕ} where
       → (r ≤ at + m * i) × (length o₁ ≡ length o)
   past-joined m i f most put = past put (m * i) (joined-most m i f most)
 
-  pub past-hex : (k n : ℕ) → Appended at o (hexText k n) r o₁ → (r ≤ at + k) × (length o₁ ≡ length o)
-  past-hex k n put = past put k (omega (arith, length-hex k n))
-
   pub past-decimal : (k n : ℕ) → Appended at o (decimalText k n) r o₁ → (r ≤ at + k) × (length o₁ ≡ length o)
   past-decimal k n put = past put k (length-decimal k n)
 
