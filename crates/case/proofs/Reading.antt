@@ -3,7 +3,7 @@ use Prim.Native.Nat.{ℕ, _≤_}
 use mathlib.Core.List.{List, [], _++_}
 use native.Mathlib.Omega.{arith}
 use lib.ListN.{length}
-use Rattle.printing.specs.Appended.{Appended}
+use Rattle.case_printing.specs.Appended.{Appended}
 use Rattle.case_reader.specs.Stream.{Lent, Started, Advanced}
 use Rattle.case_reader.specs.declared.stream.Reader.{Reader}
 use Rattle.case.specs.Read.{Read}

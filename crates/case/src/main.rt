@@ -31,8 +31,8 @@ fn main() {
         return;
     }
     let reader = got.reader;
-    let mut out = case_end::room();
-    let n = case_end::finish(reader, &memory, &labels, &words, &mut out);
+    let mut out = case_output::room();
+    let n = case_output::finish(reader, &memory, &labels, &words, &mut out);
     if !io::write_all(STDOUT, &out[..n]) {
         io::write_all(
             STDERR,

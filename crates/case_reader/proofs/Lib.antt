@@ -1,1 +1,3 @@
+pub mod Storage
+pub mod Feeding
 pub mod Lines

@@ -9,14 +9,15 @@ use borrow.Author.Tests.{eq-eqb, ne-eqb, ltb-true, ltb-false}
 use lib.Dec.{eqb, ltb}
 use lib.ListN.{length, take, set, getD, length-append, length-take, length-set}
 use lib.Seq.{take-all, take-nil, take-append-le, length-take-le, take-suc-set, take-suc}
-use Rattle.frame.specs.Frames.{frameOf}
-use Rattle.frame.specs.declared.Frame.the-variants.{Bad}
-use Rattle.frame.proofs.Laws.{long-bad}
-use Rattle.case_line.specs.Case.{Progress, extended, afterLine}
-use Rattle.case_reader.specs.Text.{newline, linesOf, restOf, LinesRead, nextNumber, noLine, lineRead, linesRead}
-use Rattle.case_line.specs.Buffers.{progressIn, Fed}
-use Rattle.case_reader.specs.Stream.{lineRoom, ReaderFits, HasRead, Advanced}
-use Rattle.case_line.specs.declared.Stage.{Stage}
+use Rattle.case_frame.specs.Frames.{frameOf}
+use Rattle.case_frame.specs.declared.Frame.the-variants.{Bad}
+use Rattle.case_frame.proofs.Laws.{long-bad}
+use Rattle.case_reader.specs.Limits.{lineRoom}
+use Rattle.case_reader.specs.Case.{Progress, extended, afterLine}
+use Rattle.case_reader.specs.Lines.{newline, linesOf, restOf, LinesRead, nextNumber, noLine, lineRead, linesRead}
+use Rattle.case_reader.specs.Buffers.{progressIn, Fed}
+use Rattle.case_reader.specs.Stream.{ReaderFits, HasRead, Advanced}
+use Rattle.case_reader.specs.declared.line.Stage.{Stage}
 use Rattle.case_reader.specs.declared.stream.Reader.{Reader}
 
 -- ---- a text with one byte more

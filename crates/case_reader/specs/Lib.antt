@@ -1,2 +1,5 @@
-pub mod Text
+pub mod Limits
+pub mod Case
+pub mod Buffers
+pub mod Lines
 pub mod Stream

@@ -1,18 +1,14 @@
 -- What a reader asks of its buffers, and what it promises of a text that comes in parts.
-use Prim.Native.Nat.{ℕ, _*_, _≤_}
+use Prim.Native.Nat.{ℕ, _≤_}
 use mathlib.Core.Path.{_≡_}
 use mathlib.Core.List.{List, [], _++_}
 use lib.ListN.{length, take}
-use Rattle.operation.specs.Layout.{wordsPerOperation}
-use Rattle.case_line.specs.Case.{mostCaseOperations, mostCaseBytes}
-use Rattle.case_line.specs.Buffers.{progressIn, Zeros, Sound}
-use Rattle.case_reader.specs.Text.{linesOf, restOf, noLine, linesRead}
+use Rattle.case_reader.specs.Limits.{spacesRoom, wordsRoom, lineRoom}
+use Rattle.case_reader.specs.Buffers.{progressIn, Zeros, Sound}
+use Rattle.case_reader.specs.Lines.{linesOf, restOf, noLine, linesRead}
 use Rattle.case_reader.specs.declared.stream.Reader.{Reader}
 
--- A line that is longer than any frame is kept only in part.
-abbrev pub lineRoom : ℕ
-lineRoom = 128
-
+-- Buffers that have the reader's lengths and hold its unfinished line.
 pub record ReaderFits (r : Reader) (line memory labels words : List ℕ) : Type 0 where
   pub room : length line ≡ lineRoom
   pub have : r .have ≤ lineRoom
@@ -21,9 +17,9 @@ pub record ReaderFits (r : Reader) (line memory labels words : List ℕ) : Type 
 -- The buffers as a reader first gets them: memory starts as zeros and public.
 pub record Lent (line memory labels words : List ℕ) : Type 0 where
   pub lineLength : length line ≡ lineRoom
-  pub memoryLength : length memory ≡ 3 * mostCaseBytes
-  pub labelLength : length labels ≡ 3 * mostCaseBytes
-  pub wordLength : length words ≡ wordsPerOperation * mostCaseOperations
+  pub memoryLength : length memory ≡ spacesRoom
+  pub labelLength : length labels ≡ spacesRoom
+  pub wordLength : length words ≡ wordsRoom
   pub memoryZeros : Zeros memory
   pub labelZeros : Zeros labels
 

@@ -1,11 +1,11 @@
 // A text that comes in parts.
 ghost use mathlib.Core.Path.{_≡_};
 ghost use mathlib.Core.List.{[], _∷_};
-ghost use Rattle.case_reader.specs.Text.{nextNumber};
+ghost use Rattle.case_reader.specs.Lines.{nextNumber};
 ghost use Rattle.case_reader.specs.Stream.{ReaderFits, Started, Advanced};
-use crate::buffers::LINE_ROOM;
-use case_line::Stage;
-use case_line::feed;
+use crate::limits::LINE_ROOM;
+use crate::line::Stage;
+use crate::line::feed;
 
 // How much of the unfinished line stands in the line buffer, how many lines were read, and what they said.
 pub struct Reader {
@@ -14,7 +14,8 @@ pub struct Reader {
     pub stage: Stage,
 }
 
-const NEWLINE: u8 = 10;
+// Ends a line.
+pub const NEWLINE: u8 = 10;
 
 // A reader that has read nothing.
 pub fn start() -> Reader

@@ -9,20 +9,20 @@ use Rattle.operation.specs.declared.report.Report.{Report}
 use Rattle.machine.specs.Memory.{Memory}
 use Rattle.machine.specs.Calls.{Outcome, labelledOutcome, labelledRun}
 use Rattle.machine.proofs.Limits.{limits}
-use Rattle.printing.specs.Appended.{Appended}
-use Rattle.outcome_text.specs.Outcome.{logRoom, outcomeText}
-use Rattle.case_run.specs.Run.{startIndex}
+use Rattle.case_printing.specs.Appended.{Appended}
+use Rattle.case_printing.specs.Outcome.{outcomeText}
+use Rattle.case_reader.specs.Limits.{logWords, startIndex}
 
 -- the log words written have their place in the log
 pub logged-in : (settings : Settings) (list : List ℕ) (budget : ℕ) (labels m : Memory) {report : Report} {m′ labels′ : Memory} {log′ : List ℕ}
-    → labelledOutcome report m′ labels′ log′ ≡ labelledRun settings list startIndex budget (replicate logRoom 0) labels m
-    → (report .logged ≤ length log′) × (length log′ ≤ logRoom)
+    → labelledOutcome report m′ labels′ log′ ≡ labelledRun settings list startIndex budget (replicate logWords 0) labels m
+    → (report .logged ≤ length log′) × (length log′ ≤ logWords)
 logged-in settings list budget labels m {report} {m′} {labels′} {log′} e =
-    let zeros : List ℕ = replicate logRoom 0 in
+    let zeros : List ℕ = replicate logWords 0 in
     let l = limits .labelledLimited settings list startIndex budget zeros labels m in
-    let room : length log′ ≡ logRoom = ap (λ (o : Outcome). length (o .log)) e ∙ l .sameLength ∙ length-replicate {A = ℕ} logRoom 0 in
+    let room : length log′ ≡ logWords = ap (λ (o : Outcome). length (o .log)) e ∙ l .sameLength ∙ length-replicate {A = ℕ} logWords 0 in
     let few : report .logged ≤ length zeros = subst (λ (k : ℕ). k ≤ length zeros) (sym (ap (λ (o : Outcome). o .report .logged) e)) (l .logged) in
-    (omega (arith, few, room, length-replicate {A = ℕ} logRoom 0), omega (arith, room))
+    (omega (arith, few, room, length-replicate {A = ℕ} logWords 0), omega (arith, room))
 
 -- what is printed of an outcome is printed of its equal
 pub printed-as : {o o′ : Outcome} {before after : List ℕ} {n : ℕ} → o ≡ o′ → Appended 0 before (outcomeText o) n after → Appended 0 before (outcomeText o′) n after

@@ -1,14 +1,9 @@
 -- Paper 01, 'The case program': the run of a case.
-use Prim.Native.Nat.{ℕ}
 use lib.ListN.{replicate}
 use Rattle.machine.specs.Calls.{Outcome, labelledRun}
-use Rattle.case_line.specs.Case.{Case}
-use Rattle.outcome_text.specs.Outcome.{logRoom}
+use Rattle.case_reader.specs.Case.{Case}
+use Rattle.case_reader.specs.Limits.{logWords, startIndex}
 
--- Start 0.
-abbrev pub startIndex : ℕ
-startIndex = 0
-
--- Labelled, with a log of zeros.
+-- What the labelled run of a case leaves, with a log of zeros.
 unfoldable pub outcome : Case → Outcome
-outcome c = labelledRun (c .settings) (c .list) startIndex (c .budget) (replicate logRoom 0) (c .labels) (c .memory)
+outcome c = labelledRun (c .settings) (c .list) startIndex (c .budget) (replicate logWords 0) (c .labels) (c .memory)

@@ -1,19 +1,20 @@
 // The labelled run of a case, and what is printed of it.
 ghost use Prim.Native.Nat.{_≤_};
 ghost use lib.ListN.{length, replicate};
-ghost use Rattle.machine.specs.Memory.{spaces};
+ghost use Rattle.machine.specs.Memory.{spaces, lengthsOf};
 ghost use Rattle.machine.specs.Calls.{labelledRun};
-ghost use Rattle.printing.specs.Appended.{Appended};
-ghost use Rattle.outcome_text.specs.Outcome.{logRoom, outcomeText};
-ghost use Rattle.outcome_text.specs.Room.{outputRoom, Small};
-ghost use Rattle.case_run.specs.Run.{startIndex};
+ghost use Rattle.case_printing.specs.Appended.{Appended};
+ghost use Rattle.case_printing.specs.Outcome.{outcomeText};
+ghost use Rattle.case_reader.specs.Limits.{logWords, startIndex};
+ghost use Rattle.case_reader.specs.Buffers.{Fits};
+ghost use Rattle.case_printing.specs.Room.{outputRoom};
+use case_printing::outcome::put_outcome;
+use case_reader::limits::LOG_WORDS;
+use case_reader::limits::START_INDEX;
 use interpreter::labelled_run;
 use operation::layout::Settings;
-use outcome_text::put_outcome;
 
-const LOG_ROOM: usize = 1024;
-
-// Prints what the labelled run from operation 0 leaves.
+// Prints what the labelled run leaves.
 pub fn print_run(
     settings: Settings,
     list: &[u64],
@@ -26,18 +27,18 @@ pub fn print_run(
     ram_labels: &mut [u8],
     out: &mut [u8],
 ) -> usize
-    requires { ⌜ Small (spaces (now unique) (now register) (now ram)) ⌝ }
-    requires { ⌜ Small (spaces (now «unique_labels») (now «register_labels») (now «ram_labels»)) ⌝ }
+    requires { ⌜ Fits (lengthsOf (spaces (now unique) (now register) (now ram))) ⌝ }
+    requires { ⌜ Fits (lengthsOf (spaces (now «unique_labels») (now «register_labels») (now «ram_labels»))) ⌝ }
     requires { ⌜ outputRoom ≤ length (now out) ⌝ }
-    ensures { λ r. ⌜ Appended 0 (now (out .entry)) (outcomeText (labelledRun settings (now (list .entry)) startIndex budget (replicate logRoom 0)
+    ensures { λ r. ⌜ Appended 0 (now (out .entry)) (outcomeText (labelledRun settings (now (list .entry)) startIndex budget (replicate logWords 0)
         (spaces (now («unique_labels» .entry)) (now («register_labels» .entry)) (now («ram_labels» .entry)))
         (spaces (now (unique .entry)) (now (register .entry)) (now (ram .entry))))) r (now (out .exit)) ⌝ }
 {
-    let mut log = [0u64; LOG_ROOM];
+    let mut log = [0u64; LOG_WORDS];
     let report = labelled_run(
         settings,
         list,
-        0,
+        START_INDEX,
         budget,
         unique,
         register,

@@ -1,6 +1,6 @@
 -- The spaces of a case, copied: their lengths, and the run of them.
 use Prim.Native.Nat.{ℕ, _*_, _≤_}
-use mathlib.Core.Path.{_≡_, sym, ap, subst}
+use mathlib.Core.Path.{_≡_, sym, subst}
 use mathlib.Core.List.{List}
 use native.Mathlib.Omega.{arith}
 use lib.ListN.{length, take, replicate}
@@ -9,34 +9,24 @@ use Rattle.operation.specs.declared.layout.Lengths.{Lengths}
 use Rattle.operation.specs.Layout.{wordsPerOperation}
 use Rattle.machine.specs.Memory.{Memory, spaces, lengthsOf}
 use Rattle.machine.specs.Calls.{labelledRun}
-use Rattle.case_line.specs.Case.{mostCaseBytes}
-use Rattle.case_line.specs.Buffers.{Fits, memoryIn, caseIn}
-use Rattle.case_line.specs.declared.Header.{Header}
-use Rattle.outcome_text.specs.Outcome.{logRoom}
-use Rattle.case_run.specs.Run.{startIndex, outcome}
-use Rattle.outcome_text.specs.Room.{Small}
+use Rattle.case_reader.specs.Limits.{mostCaseBytes, logWords, startIndex}
+use Rattle.case_reader.specs.Buffers.{Fits, memoryIn, caseIn}
+use Rattle.case_reader.specs.declared.line.Header.{Header}
+use Rattle.case_run.specs.Run.{outcome}
 
--- spaces that have the lengths of a case are small
-pub small : (m : Memory) (l : Lengths) → lengthsOf m ≡ l → Fits l → Small m
-unfolding lengthsOf
-small m l e f =
-    record {
-      unique = subst (λ (k : ℕ). k ≤ mostCaseBytes) (sym (ap (λ (x : Lengths). x .unique) e)) (f .unique);
-      register = subst (λ (k : ℕ). k ≤ mostCaseBytes) (sym (ap (λ (x : Lengths). x .register) e)) (f .register);
-      ram = subst (λ (k : ℕ). k ≤ mostCaseBytes) (sym (ap (λ (x : Lengths). x .ram) e)) (f .ram);
-    }
-
+-- spaces that have the lengths of a case fit
 pub fits-as : (m : Memory) (l : Lengths) → lengthsOf m ≡ l → Fits l → Fits (lengthsOf m)
 fits-as m l e f = subst Fits (sym e) f
 
 -- the run of what the buffers hold
 pub case-run : (h : Header) (m ls ws : List ℕ) {x y : Memory} {p q : Lengths} → x ≡ memoryIn p m → p ≡ h .lengths → y ≡ memoryIn q ls → q ≡ h .lengths
-    → labelledRun (h .settings) (take (wordsPerOperation * h .operations) ws) startIndex (h .budget) (replicate logRoom 0) y x ≡ outcome (caseIn h m ls ws)
+    → labelledRun (h .settings) (take (wordsPerOperation * h .operations) ws) startIndex (h .budget) (replicate logWords 0) y x ≡ outcome (caseIn h m ls ws)
 unfolding outcome caseIn
 case-run h m ls ws a b c d = rw (a, b, c, d)
 
-pub kept-small : {u g m u′ g′ m′ : List ℕ} → Small (spaces u g m) → length u′ ≡ length u → length g′ ≡ length g → length m′ ≡ length m → Small (spaces u′ g′ m′)
-kept-small s a b c = record { unique = omega (arith, a, s .unique); register = omega (arith, b, s .register); ram = omega (arith, c, s .ram) }
+-- the front of a buffer with room for a space
+pub front : {n : ℕ} (b : List ℕ) → mostCaseBytes ≡ length b → n ≤ mostCaseBytes → n ≡ length (take n b)
+front {n} b e h = sym (length-take-le n b (omega (arith, e, h)))
 
 -- room for each space
 pub front-lengths : (l : Lengths) → Fits l → (a b c : List ℕ) → mostCaseBytes ≡ length a → mostCaseBytes ≡ length b → mostCaseBytes ≡ length c

@@ -1,20 +1,19 @@
 // The run of a case that lies in the reader's buffers.
 ghost use mathlib.Core.Path.{_≡_};
-ghost use Prim.Native.Nat.{_+_, _*_, _≤_};
+ghost use Prim.Native.Nat.{_+_, _≤_};
 ghost use lib.ListN.{length, take, drop};
 ghost use Rattle.machine.specs.Memory.{spaces, lengthsOf};
-ghost use Rattle.case_line.specs.Case.{mostCaseBytes};
-ghost use Rattle.case_line.specs.Buffers.{memoryIn, caseIn, Fits, Sound};
-ghost use Rattle.printing.specs.Appended.{Appended};
-ghost use Rattle.outcome_text.specs.Outcome.{outcomeText};
-ghost use Rattle.outcome_text.specs.Room.{outputRoom};
+ghost use Rattle.case_reader.specs.Limits.{mostCaseBytes, spacesRoom};
+ghost use Rattle.case_reader.specs.Buffers.{memoryIn, caseIn, Fits, Sound};
+ghost use Rattle.case_printing.specs.Appended.{Appended};
+ghost use Rattle.case_printing.specs.Outcome.{outcomeText};
+ghost use Rattle.case_printing.specs.Room.{outputRoom};
 ghost use Rattle.case_run.specs.Run.{outcome};
-use case_line::Header;
-use case_line::Stage;
+use case_reader::limits::MOST_CASE_BYTES;
+use case_reader::line::Header;
+use case_reader::line::Stage;
 use case_run::print_run;
 use operation::layout::WORDS_PER_OPERATION;
-
-const MOST_BYTES: usize = 4096;
 
 // Runs the case and prints what the run leaves. The run gets copies, since the three spaces share a buffer.
 pub fn run_case(
@@ -53,10 +52,10 @@ pub fn run_case(
     )
 }
 
-fn zeros() -> [u8; MOST_BYTES]
+fn zeros() -> [u8; MOST_CASE_BYTES]
     ensures { λ r. ⌜ mostCaseBytes ≡ length r ⌝ }
 {
-    [0; MOST_BYTES]
+    [0; MOST_CASE_BYTES]
 }
 
 // The same with room for each space.
@@ -99,14 +98,14 @@ fn run_in(
 
 // Takes the three spaces out of the buffer that they share.
 fn fill(buffer: &[u8], unique: &mut [u8], register: &mut [u8], ram: &mut [u8])
-    requires { ⌜ length (now buffer) ≡ 3 * mostCaseBytes ⌝ }
+    requires { ⌜ length (now buffer) ≡ spacesRoom ⌝ }
     requires { ⌜ Fits (lengthsOf (spaces (now unique) (now register) (now ram))) ⌝ }
     ensures { λ _. ⌜ spaces (now (unique .exit)) (now (register .exit)) (now (ram .exit))
         ≡ memoryIn (lengthsOf (spaces (now (unique .entry)) (now (register .entry)) (now (ram .entry)))) (now (buffer .entry)) ⌝ }
 {
     copy(buffer, 0, unique);
-    copy(buffer, MOST_BYTES, register);
-    copy(buffer, 2 * MOST_BYTES, ram);
+    copy(buffer, MOST_CASE_BYTES, register);
+    copy(buffer, 2 * MOST_CASE_BYTES, ram);
 }
 
 // Fills `to` with what stands at `at`.

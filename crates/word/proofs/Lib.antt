@@ -3,3 +3,4 @@ pub mod Digits
 pub mod Powers
 pub mod Laws
 pub mod Tests
+pub mod Stores

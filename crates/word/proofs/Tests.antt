@@ -1,6 +1,6 @@
 -- Tests that agree. A test `ltb a b` is `leb (suc a) b`, so the law serves both.
 use mathlib.Core.Path.{_≡_, refl, sym, _∙_}
-use mathlib.Core.Bool.{Bool, true, false}
+use mathlib.Core.Bool.{Bool, true, false, cond}
 use Prim.Native.Nat.{ℕ, zero, suc, _≤_, _<_}
 use native.Mathlib.Omega.{arith}
 use borrow.Author.Tests.{leb-true, leb-false, le-leb, lt-leb, le-ltb, eqb-true, eqb-false, eq-eqb, ne-eqb}
@@ -23,3 +23,8 @@ eqb-agree a b c d there back = by (eqb c d) refl
 pub below-one : (x : ℕ) → eqb x 0 ≡ ltb x 1
 below-one zero = refl
 below-one (suc x) = eqb·suc-zero x ∙ sym (le-ltb (suc x) 1 (omega arith))
+
+-- what holds of each answer where its test says so holds of the condition
+pub by-cond : {A : Type 0} (P : A → Type 0) (b : Bool) (x y : A) → (b ≡ true → P x) → (b ≡ false → P y) → P (cond b x y)
+by-cond P true x y f g = f refl
+by-cond P false x y f g = g refl

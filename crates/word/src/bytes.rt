@@ -75,7 +75,7 @@ fn weight(big: bool, n: usize, i: usize) -> usize
 }
 
 // As a function, the cast asks for no proof where a byte of a slice is read.
-fn wide(x: u8) -> u64
+pub fn wide(x: u8) -> u64
     ensures { λ r. ⌜ r ≡ x ⌝ }
 {
     x as u64

@@ -1,20 +1,17 @@
 -- `case_reader::stream::next_number` meets its contract.
 use borrow.Author.Tests.{lt-ltb, le-ltb}
-use Rattle.case_reader.specs.Text.{nextNumber}
+use Rattle.case_reader.specs.Lines.{nextNumber}
 use borrow.Author.Needs.{needs}
 use Rattle.case_reader.proofs.stream.next_number.Statement.{statement}
 use Rattle.case_reader.proofs.stream.next_number.Tie as tie
 
-add-result : tie.Need-add-result
-add-result c = search needs
-
 returns : tie.Need-returns
 unfolding nextNumber
-returns c = rw (lt-ltb _ _ (c .if1 .taken))
+returns c = search (needs, lt-ltb)
 
 returns-2 : tie.Need-returns-2
 unfolding nextNumber
-returns-2 c = rw (le-ltb _ _ (c .if1 .left))
+returns-2 c = search (needs, le-ltb)
 
 pub next-number-spec : {M : Type 1} → statement M
-next-number-spec = tie.close (tie.spec add-result returns returns-2)
+next-number-spec = tie.close (tie.spec (λ c. search needs) returns returns-2)

@@ -1,29 +1,23 @@
--- `word::bytes::scatter_walk` meets its contract. The loop's invariant: the bytes passed are written, and nothing else.
---
-use Prim.Native.Nat.{_+_, _-_, _≤_, _<_}
-use mathlib.Core.Path.{_≡_, refl, sym, _∙_}
-use native.Mathlib.Nat.{le-refl}
-use native.Mathlib.Numerals.{add-one}
+-- `word::bytes::scatter_walk` meets its contract. The loop's invariant: the bytes passed are written, and nothing else (`Storing`).
+use Prim.Native.Nat.{_-_}
+use mathlib.Core.Path.{_∙_}
 use native.Mathlib.Omega.{arith}
 use borrow.Author.Needs.{needs}
-use lib.ListN.{length, length-set}
-use lib.Seq.{paste, paste-zero, paste-suc, sets-eq, take-all}
-use Rattle.word.specs.Word.{bytesOf}
-use Rattle.word.proofs.Laws.{bytes-length, scattered}
+use Rattle.word.specs.Sum.{digit}
+use Rattle.word.specs.Word.{significance, bytesOf}
+use Rattle.word.proofs.Laws.{bytes-at, scattered}
+use Rattle.word.proofs.Stores.{Storing, storing-none, storing-more, storing-all, storing-length}
 use Rattle.word.proofs.bytes.scatter_walk.Statement.{statement}
 use Rattle.word.proofs.bytes.scatter_walk.Tie as tie
 
 abbrev Inv-loop : tie.InvT-loop
-Inv-loop big s₀ at size v i₀ s i =
-    (i ≤ size) × ((s ≡ paste s₀ at (bytesOf big size v) i) × (length s ≡ length s₀))
+Inv-loop big s₀ at size v i₀ s i = Storing (λ k. digit 256 v (significance big size k)) size at s₀ s i
 
 abbrev μ-loop : tie.MeasureT-loop
 μ-loop big s₀ at size v i₀ s i = size - i
 
 loop-holds : tie.Need-loop-holds Inv-loop μ-loop
-loop-holds c =
-    let a = c .before .args in
-    (omega arith, (paste-zero (a .s .now) (a .at) (bytesOf (a .big) (a .size) (a .v)), refl))
+loop-holds c = storing-none _ _ _ _
 
 mul-s : tie.Need-mul-s Inv-loop μ-loop
 mul-s c = omega arith
@@ -38,7 +32,7 @@ add-s : tie.Need-add-s Inv-loop μ-loop
 add-s c = omega arith
 
 slice-write-s : tie.Need-slice-write-s Inv-loop μ-loop
-slice-write-s c = omega arith
+slice-write-s c = omega (arith, storing-length (c .before .before .loop .inv))
 
 add-i : tie.Need-add-i Inv-loop μ-loop
 add-i c = omega arith
@@ -50,27 +44,16 @@ loop-again : tie.Need-loop-again Inv-loop μ-loop
 loop-again c =
     let l = c .before .before .loop in
     let a = c .before .before .before .before .args in
-    let inside : l .i < length (bytesOf (a .big) (a .size) (a .v)) = rw bytes-length (omega arith) in (
-      omega arith,
-      (
-        rw (l .inv .1 .0, c .weight .ensures .0, scattered (a .big) (a .size) (a .v) (l .i) (omega arith), add-one)
-            (paste-suc (a .s .now) (a .at) (bytesOf (a .big) (a .size) (a .v)) (l .i) 0 (omega arith) inside),
-        simp length-set (l .inv .1 .1),
-      ),
-    )
+    let test = c .before .loop-test .taken in
+    let byte = scattered (a .big) (a .size) (a .v) (l .i) test ∙ bytes-at (a .big) (a .size) (a .v) (l .i) test in
+    storing-more (l .inv) test (rw (c .weight .ensures .0) byte)
 
 same-length : tie.Need-same-length Inv-loop μ-loop
-same-length c = c .before .loop .inv .1 .1
+same-length c = storing-length (c .before .loop .inv)
 
 returns : tie.Need-returns Inv-loop μ-loop
-returns c =
-    let l = c .before .loop in
-    let a = c .before .before .before .args in
-    let e : l .i ≡ length (bytesOf (a .big) (a .size) (a .v)) = rw bytes-length (omega arith) in
-    let fits : a .at + length (bytesOf (a .big) (a .size) (a .v)) ≤ length (a .s .now) = rw bytes-length (omega arith) in
-    l .inv .1 .0
-    ∙ rw (e, take-all (length (bytesOf (a .big) (a .size) (a .v))) (bytesOf (a .big) (a .size) (a .v)) (le-refl _))
-    (sym (sets-eq (bytesOf (a .big) (a .size) (a .v)) (a .s .now) (a .at) fits))
+unfolding bytesOf
+returns c = storing-all (c .before .loop .inv) (c .loop-test .left)
 
 pub scatter-walk-spec : {M : Type 1} → statement M
 scatter-walk-spec =

@@ -1,0 +1,116 @@
+-- Paper 01, 'The case program': the frame that a line stands for. The line is without its newline.
+use Prim.Native.Nat.{ℕ, _+_, _-_, _*_, _/_, _%_, max}
+use mathlib.Core.Bool.{Bool, true, false, cond, _&&_}
+use mathlib.Core.List.{List}
+use lib.ListN.{length}
+use lib.Dec.{leb, eqb}
+use Rattle.word.specs.Sum.{tabulate}
+use Rattle.operation.specs.Layout.{wordsPerOperation}
+use Rattle.case_hexadecimal.specs.Digits.{byteDigits, numberDigits, wordDigits, allDigits, numberAt}
+use Rattle.case_frame.specs.declared.Frame.{Frame}
+use Rattle.case_frame.specs.declared.Frame.the-variants.{Opening, Bytes, Operation, Bad}
+
+-- ---- where the parts of a frame lie, behind its kind
+
+-- 01: the byte order.
+abbrev pub orderPlace : ℕ
+orderPlace = byteDigits
+
+-- 01: A.
+abbrev pub addressSizePlace : ℕ
+addressSizePlace = orderPlace + byteDigits
+
+-- 01: the length of unique.
+abbrev pub uniquePlace : ℕ
+uniquePlace = addressSizePlace + byteDigits
+
+-- 01: the length of register.
+abbrev pub registerPlace : ℕ
+registerPlace = uniquePlace + numberDigits
+
+-- 01: the length of ram.
+abbrev pub ramPlace : ℕ
+ramPlace = registerPlace + numberDigits
+
+-- 01: the budget.
+abbrev pub budgetPlace : ℕ
+budgetPlace = ramPlace + numberDigits
+
+-- The digits of an 01 line.
+abbrev pub openingLength : ℕ
+openingLength = budgetPlace + numberDigits
+
+-- 02 and 03: the space.
+abbrev pub spacePlace : ℕ
+spacePlace = byteDigits
+
+-- 02 and 03: the offset.
+abbrev pub offsetPlace : ℕ
+offsetPlace = spacePlace + byteDigits
+
+-- 02 and 03: the bytes or labels.
+abbrev pub bytesPlace : ℕ
+bytesPlace = offsetPlace + numberDigits
+
+-- The most bytes or labels of a line.
+abbrev pub mostFrameBytes : ℕ
+mostFrameBytes = 32
+
+-- The digits of a line with n bytes or labels.
+abbrev pub bytesLength : (n : ℕ) → ℕ
+bytesLength n = bytesPlace + byteDigits * n
+
+-- 04: the words.
+abbrev pub wordsPlace : ℕ
+wordsPlace = byteDigits
+
+-- The digits of an 04 line.
+abbrev pub operationLength : ℕ
+operationLength = wordsPlace + wordDigits * wordsPerOperation
+
+-- The digits of the longest line that is a frame.
+abbrev pub longestFrame : ℕ
+longestFrame = max operationLength (bytesLength mostFrameBytes)
+
+-- ---- the frames
+
+-- 01: byte order, A (2 digits each), lengths of unique, register, ram and budget (8 each).
+unfoldable pub openingOf : (line : List ℕ) → Frame
+openingOf s =
+    cond (eqb (length s) openingLength)
+    (Opening
+    (record { order = numberAt s orderPlace byteDigits; «address_size» = numberAt s addressSizePlace byteDigits })
+    (record { unique = numberAt s uniquePlace numberDigits; register = numberAt s registerPlace numberDigits; ram = numberAt s ramPlace numberDigits })
+    (numberAt s budgetPlace numberDigits))
+    Bad
+
+-- 02: space, offset (8), 1 to 32 bytes; 03: the same with labels.
+unfoldable pub bytesFrameOf : (labels : Bool) → (line : List ℕ) → Frame
+bytesFrameOf labels s =
+    cond (leb (bytesLength 1) (length s) && leb (length s) (bytesLength mostFrameBytes) && eqb (length s % byteDigits) 0)
+    (Bytes labels (numberAt s spacePlace byteDigits) (numberAt s offsetPlace numberDigits) ((length s - bytesPlace) / byteDigits))
+    Bad
+
+-- The bytes or labels of such a line, of which it has n.
+unfoldable pub bytesOn : (n : ℕ) → (line : List ℕ) → List ℕ
+bytesOn n s = tabulate n (λ i. numberAt s (bytesLength i) byteDigits)
+
+-- 04: the words of an operation, 16 digits each.
+unfoldable pub operationOf : (line : List ℕ) → Frame
+operationOf s = cond (eqb (length s) operationLength) Operation Bad
+
+-- The words of such a line.
+unfoldable pub wordsOn : (line : List ℕ) → List ℕ
+wordsOn s = tabulate wordsPerOperation (λ k. numberAt s (wordsPlace + wordDigits * k) wordDigits)
+
+-- The frame's kind is its first two digits.
+unfoldable pub frameBy : (kind : ℕ) → (line : List ℕ) → Frame
+frameBy kind s =
+    cond (eqb kind 1) (openingOf s)
+    (cond (eqb kind 2) (bytesFrameOf false s)
+    (cond (eqb kind 3) (bytesFrameOf true s)
+    (cond (eqb kind 4) (operationOf s) Bad)))
+
+-- Any other line, and one with a character that is no digit, is bad.
+unfoldable pub frameOf : (line : List ℕ) → Frame
+frameOf s = cond (leb byteDigits (length s) && allDigits s) (frameBy (numberAt s 0 byteDigits) s) Bad

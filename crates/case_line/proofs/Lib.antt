@@ -1,2 +1,0 @@
-pub mod Storage
-pub mod Feeding
