@@ -13,7 +13,9 @@ use Rattle.word.specs.Sum.{sum, digit}
 use Rattle.word.proofs.Digits.{digit-lt, digits-lt}
 use Rattle.word.proofs.Powers.{pow-bits, size-pos, size-mono}
 use Rattle.integer.specs.Integers.{signed, wrap, negative}
-use Rattle.integer.specs.Operations.{flag, piece, subpiece, popcount, intEqual, intNotEqual, intLess, intSless, intLessEqual, intSlessEqual, intZext, intSext, intAdd, intSub, intCarry, intScarry, intSborrow, int2comp, intNegate, intXor, intAnd, intOr, intLeft, intRight, intSright, intMult, intDiv, intRem, intSdiv, intSrem, boolNegate, boolXor, boolAnd, boolOr}
+use Rattle.integer.specs.Operations.{flag, piece, subpiece, popcount, intEqual, intNotEqual, intLess, intSless, intLessEqual, intSlessEqual, intZext, intSext, intAdd}
+use Rattle.integer.specs.Operations.{intSub, intCarry, intScarry, intSborrow, int2comp, intNegate, intXor, intAnd, intOr, intLeft, intRight, intSright, intMult, intDiv}
+use Rattle.integer.specs.Operations.{intRem, intSdiv, intSrem, boolNegate, boolXor, boolAnd, boolOr}
 use Rattle.arithmetic.specs.Opcodes.{opcodes, rowOf, sizesOf}
 use Rattle.arithmetic.specs.Operands.{Operands, agree, sizesAgree}
 use Rattle.arithmetic.specs.Result.{lookup, integerResults, result}
@@ -80,7 +82,9 @@ module _ {opcode size size0 size1 a b : ℕ} (o : Operands opcode size size0 siz
       (either-lt (negative (signed size a)) (256 ^ size - 1) 0 (256 ^ size) (omega (arith, positive)) positive)
 
   pub result-below : result opcode size size0 size1 a b < 256 ^ size
-  unfolding result integerResults sizesAgree agree sizesOf rowOf opcodes subpiece intEqual intNotEqual intLess intSless intLessEqual intSlessEqual intZext intSext intAdd intSub intCarry intScarry intSborrow int2comp intNegate intXor intAnd intOr intLeft intRight intMult intDiv intRem intSdiv intSrem boolNegate boolXor boolAnd boolOr
+  unfolding result integerResults sizesAgree agree sizesOf rowOf opcodes subpiece intEqual intNotEqual intLess intSless
+      intLessEqual intSlessEqual intZext intSext intAdd intSub intCarry intScarry intSborrow int2comp intNegate intXor intAnd
+      intOr intLeft intRight intMult intDiv intRem intSdiv intSrem boolNegate boolXor boolAnd boolOr
   result-below =
       lookup-lt opcode (256 ^ size) positive
       ((λ e. piece-below (agreed o 10 e))

@@ -12,7 +12,8 @@ use Rattle.word.specs.Sum.{tabulate, digit}
 use Rattle.word.proofs.Sums.{tabulate-at}
 use Rattle.integer.specs.Operations.{flag}
 use Rattle.integer.proofs.Booleans.{both}
-use Rattle.arithmetic.specs.Opcodes.{mostInputs, lastOpcode, firstInteger, Sizes, kept, equal, compared, extended, boolean, negated, joined, pointer, indirect, condition, free, none, opcodes, rowOf, outputs, inputs, sizesOf, hasPlace}
+use Rattle.arithmetic.specs.Opcodes.{mostInputs, lastOpcode, firstInteger, Sizes, kept, equal, compared, extended, boolean, negated, joined, pointer, indirect}
+use Rattle.arithmetic.specs.Opcodes.{condition, free, none, opcodes, rowOf, outputs, inputs, sizesOf, hasPlace}
 
 -- ---- the table
 

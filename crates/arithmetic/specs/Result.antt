@@ -3,7 +3,9 @@ use Prim.Native.Nat.{ℕ}
 use mathlib.Core.Bool.{cond}
 use mathlib.Core.List.{List, [], _∷_}
 use lib.Dec.{eqb}
-use Rattle.integer.specs.Operations.{piece, subpiece, popcount, intEqual, intNotEqual, intLess, intSless, intLessEqual, intSlessEqual, intZext, intSext, intAdd, intSub, intCarry, intScarry, intSborrow, int2comp, intNegate, intXor, intAnd, intOr, intLeft, intRight, intSright, intMult, intDiv, intRem, intSdiv, intSrem, boolNegate, boolXor, boolAnd, boolOr}
+use Rattle.integer.specs.Operations.{piece, subpiece, popcount, intEqual, intNotEqual, intLess, intSless, intLessEqual, intSlessEqual, intZext, intSext, intAdd, intSub}
+use Rattle.integer.specs.Operations.{intCarry, intScarry, intSborrow, int2comp, intNegate, intXor, intAnd, intOr, intLeft, intRight, intSright, intMult, intDiv, intRem}
+use Rattle.integer.specs.Operations.{intSdiv, intSrem, boolNegate, boolXor, boolAnd, boolOr}
 
 -- What stands beside a number in a table; 0 where it is not there.
 unfoldable pub lookup : ℕ → List (ℕ × ℕ) → ℕ

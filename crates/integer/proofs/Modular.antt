@@ -2,7 +2,8 @@
 use mathlib.Core.Path.{_≡_, refl, sym, ap, _∙_}
 use mathlib.Core.Bool.{Bool, true, false}
 use Prim.Native.Nat.{ℕ, zero, suc, _+_, _-_, _*_, _/_, _%_, _^_, _<_}
-use native.Mathlib.Nat.{add-assoc, add-zero, zero-add, add-mul, one-mul, zero-mul, mul-right-comm, div-add-mod', mod-lt, mod-eq-of-lt, mod-self, zero-mod, mod-add-mod, add-mod-mod, mul-mod-left, add-mul-mod-self-right, mul-add-mod-self-right}
+use native.Mathlib.Nat.{add-assoc, add-zero, zero-add, add-mul, one-mul, zero-mul, mul-right-comm, div-add-mod', mod-lt, mod-eq-of-lt, mod-self, zero-mod, mod-add-mod}
+use native.Mathlib.Nat.{add-mod-mod, mul-mod-left, add-mul-mod-self-right, mul-add-mod-self-right}
 use native.Mathlib.Numerals.{add-one}
 use native.Mathlib.Omega.{arith}
 use borrow.Author.Tests.{ltb-true, ltb-false}

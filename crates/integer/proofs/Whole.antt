@@ -2,7 +2,8 @@
 use mathlib.Core.Path.{subst, _≡_, refl, sym, ap, ap₂, _∙_}
 use mathlib.Core.Bool.{Bool, true, false}
 use Prim.Native.Nat.{ℕ, zero, suc, _+_, _-_, _*_, _/_, _%_, _^_, _≤_, _<_}
-use native.Mathlib.Nat.{add-mul, mul-add, mul-assoc, mul-mul-mul-comm, mul-right-comm, mul-add-mod-self-right, le-of-lt, lt-of-le-of-lt, lt-of-lt-of-le, mul-le-mul-left, mul-lt-mul-of-pos-right, div-eq-of-lt, zero-mod}
+use native.Mathlib.Nat.{add-mul, mul-add, mul-assoc, mul-mul-mul-comm, mul-right-comm, mul-add-mod-self-right, le-of-lt, lt-of-le-of-lt, lt-of-lt-of-le, mul-le-mul-left}
+use native.Mathlib.Nat.{mul-lt-mul-of-pos-right, div-eq-of-lt, zero-mod}
 use native.Mathlib.Omega.{arith}
 use borrow.Author.Tests.{lt-ltb, le-ltb, ltb-true, ltb-false}
 use lib.Dec.{lit<, ltb, leb}

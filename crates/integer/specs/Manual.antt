@@ -5,7 +5,8 @@ use Prim.Native.Nat.{ℕ, _+_, _*_, _/_, _%_, _-_, _^_, _≤_, _<_}
 use mathlib.Core.Bool.{cond}
 use lib.IntN.{pos, _+ℤ_, _-ℤ_, _*ℤ_}
 use Rattle.integer.specs.Integers.{signed, wrap, negative}
-use Rattle.integer.specs.Operations.{flag, subpiece, popcount, intLess, intSext, intAdd, intSub, int2comp, intNegate, intLeft, intRight, intSright, intMult, intDiv, intRem, intSdiv, intSrem}
+use Rattle.integer.specs.Operations.{flag, subpiece, popcount, intLess, intSext, intAdd, intSub, int2comp, intNegate, intLeft, intRight, intSright, intMult, intDiv}
+use Rattle.integer.specs.Operations.{intRem, intSdiv, intSrem}
 
 -- A field for each of these sentences.
 pub record Manual : Type 0 where

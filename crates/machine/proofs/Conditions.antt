@@ -19,9 +19,13 @@ use Rattle.operation.specs.declared.layout.Varnode.{Varnode}
 use Rattle.machine.specs.Program.{Program, bigEndian}
 use Rattle.machine.specs.Memory.{Memory, OfBytes, lengthsOf, spaceOf, withSpace, bytesAt, written, valueAt}
 use Rattle.operation.specs.Layout.{absent, wordsPerOperation, operationCount, wordAt, offsetAt, describedBy, varnodeAt}
-use Rattle.machine.specs.Effect.{Operation, operationAt, Kind, kindOf, moves, dropped, computed, anySecret, secret, sinks, tested, valuesOf, pointee, sources, target, bytesWritten, labelsWritten}
-use Rattle.machine.specs.Run.{Stop, Decision, Position, Stepped, indexOf, goTo, logWord, logging, access, checked, decided, advanced, ended, endingOf, testedValue, applyDecision, executeAs, execute, stepped, continued, run}
-use Rattle.machine.specs.Conditions.{hasSecret, leaks, exceedsSpace, taken, branchTaken, outOfBounds, dividesByZero, writesLog, lowPart, logWordOf, exits, destination, nextIndex, destinationBytes, becomesSecret, valueComputed, valueMoved, valueWritten, positionAfter, exactStepWith, labelsAfter, exactStep, exactStepWithin, Words, ExactConditions}
+use Rattle.machine.specs.Effect.{Operation, operationAt, Kind, kindOf, moves, dropped, computed, anySecret, secret, sinks, tested, valuesOf, pointee, sources}
+use Rattle.machine.specs.Effect.{target, bytesWritten, labelsWritten}
+use Rattle.machine.specs.Run.{Stop, Decision, Position, Stepped, indexOf, goTo, logWord, logging, access, checked, decided, advanced, ended, endingOf, testedValue}
+use Rattle.machine.specs.Run.{applyDecision, executeAs, execute, stepped, continued, run}
+use Rattle.machine.specs.Conditions.{hasSecret, leaks, exceedsSpace, taken, branchTaken, outOfBounds, dividesByZero, writesLog, lowPart, logWordOf, exits}
+use Rattle.machine.specs.Conditions.{destination, nextIndex, destinationBytes, becomesSecret, valueComputed, valueMoved, valueWritten, positionAfter, exactStepWith}
+use Rattle.machine.specs.Conditions.{labelsAfter, exactStep, exactStepWithin, Words, ExactConditions}
 use Rattle.operation.specs.Rules.{accesses, namesSpace, isDestination, breaksPlace, branches, jumps, relativeTarget}
 use Rattle.operation.proofs.Targets.{wrapping}
 use lib.IntN.{pos}

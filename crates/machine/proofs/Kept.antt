@@ -16,7 +16,8 @@ use Rattle.operation.specs.Layout.{operationCount}
 use Rattle.machine.specs.Program.{Program}
 use Rattle.machine.specs.Memory.{Memory, lengthsOf, spaceOf, withSpace, written}
 use Rattle.machine.specs.Effect.{Operation, Kind, operationAt, sources, target, secret, labelsWritten}
-use Rattle.machine.specs.Run.{Stop, Decision, Position, Ended, Stepped, logging, goTo, access, checked, decided, advanced, ended, applyDecision, executeAs, execute, stepped, continued, run}
+use Rattle.machine.specs.Run.{Stop, Decision, Position, Ended, Stepped, logging, goTo, access, checked, decided, advanced, ended, applyDecision, executeAs, execute}
+use Rattle.machine.specs.Run.{stepped, continued, run}
 use Rattle.machine.specs.Calls.{allLabels, labelsInRange, starting}
 use Rattle.machine.proofs.Cases.{either}
 

@@ -9,11 +9,13 @@ use Rattle.arithmetic.specs.Opcodes.{opcodes, rowOf, outputs, inputs, sizesOf, 
 use Rattle.arithmetic.specs.Operands.{divides, agree, sizesAgree}
 use Rattle.arithmetic.specs.Result.{lookup, integerResults, result}
 use Rattle.operation.specs.Layout.{operationCount, wordAt, headByte, spareAt, opcodeAt, descriptorAt, offsetAt, describedBy, varnodeAt, absent}
-use Rattle.operation.specs.Rules.{breaksHead, describesVarnode, breaksShape, breaksShapeAt, accesses, branches, jumps, namesSpace, isDestination, breaksPlace, lengthOf, beyond, breaksRange, breaksSize, relativeTarget, targetOutside, breaksTarget}
+use Rattle.operation.specs.Rules.{breaksHead, describesVarnode, breaksShape, breaksShapeAt, accesses, branches, jumps, namesSpace, isDestination, breaksPlace, lengthOf}
+use Rattle.operation.specs.Rules.{beyond, breaksRange, breaksSize, relativeTarget, targetOutside, breaksTarget}
 use Rattle.validation.specs.Verdict.{settingsInRange, lengthsInRange, anyBelow, anyPlace, sizeOrTarget, lowestRule, firstMalformed, refusalReport, malformed}
 use Rattle.machine.specs.Program.{bigEndian}
 use Rattle.machine.specs.Memory.{lengthsOf, spaceOf, withSpace, bytesAt, written, valueAt, ordered, digitsAt}
-use Rattle.machine.specs.Effect.{operationAt, kindOf, sinks, tested, pointee, sources, target, moves, dropped, digitsOf, valuesOf, computed, bytesWritten, anySecret, secret, labelsWritten}
+use Rattle.machine.specs.Effect.{operationAt, kindOf, sinks, tested, pointee, sources, target, moves, dropped, digitsOf, valuesOf, computed, bytesWritten}
+use Rattle.machine.specs.Effect.{anySecret, secret, labelsWritten}
 use Rattle.machine.specs.Run.{endingOf, indexOf, goTo, checked, decided, advanced, ended, testedValue, applyDecision, executeAs, execute, stepped, continued, run}
 use Rattle.machine.specs.Calls.{refusal, logAfter, outcomeOf, starting, called, unlabelled, plainRun}
 use Rattle.machine.specs.Marked.{Marked}

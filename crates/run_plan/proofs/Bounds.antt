@@ -2,11 +2,12 @@
 use Prim.Native.Nat.{ℕ, _+_, _%_, _^_, _≤_, _<_}
 use native.Mathlib.Omega.{arith}
 use mathlib.Core.Path.{_≡_, refl, sym}
-use mathlib.Core.Bool.{Bool, true, false, cond, not, _&&_, _||_, true≢false}
+use mathlib.Core.Bool.{Bool, true, false, not, _&&_, _||_, true≢false}
 use mathlib.Core.List.{[], _∷_}
 use borrow.Author.Tests.{eqb-true, eq-eqb, leb-true, not-false}
 use lib.Dec.{eqb, leb}
 use lib.ListN.{length}
+use Rattle.word.proofs.Tests.{by-cond}
 use Rattle.integer.proofs.Booleans.{both, neither, flag-lt}
 use Rattle.arithmetic.specs.Opcodes.{member}
 use Rattle.operation.specs.declared.layout.Varnode.{Varnode}
@@ -26,11 +27,6 @@ use Rattle.run_plan.specs.declared.Plan.{Plan}
 use Rattle.run_plan.specs.Valid.{Valid}
 use Rattle.run_plan.specs.Plans.{control, lowDue, exitPlan, nextPlan, planned}
 use Rattle.run_plan.proofs.Places.{space-length, placed, movable, in-range}
-
--- what holds in each case of a condition, by what the test says
-pub when-true : {A : Type 0} (P : A → Type 0) (c : Bool) (a b : A) → (c ≡ true → P a) → (c ≡ false → P b) → P (cond c a b)
-when-true P true a b h q = h refl
-when-true P false a b h q = q refl
 
 pub nowhere : (m : Memory) → Placed m absent
 unfolding absent
@@ -95,7 +91,7 @@ module _ (program : Program) (m : Memory) (i : ℕ) (v : Valid (lengthsOf m) (pr
   next-index : Words (program .list) → OfBytes m → (b : ℕ) → InList (nextIndex op i b)
   unfolding nextIndex branchTaken taken
   next-index words bytes b =
-      when-true InList (branchTaken op b && eqb (op .input0 .space) 1) _ _
+      by-cond InList (branchTaken op b && eqb (op .input0 .space) 1) _ _
       (λ k. let t = both (branchTaken op b) (eqb (op .input0 .space) 1) k in
       target-within words bytes (taken-branches (op .opcode) (not (eqb b 0)) (t .0)) (t .1))
       (λ k. omega arith)
@@ -118,7 +114,7 @@ module _ (program : Program) (m : Memory) (i : ℕ) (v : Valid (lengthsOf m) (pr
   pub destination-placed : (b : ℕ) → outOfBounds m op b ≡ false → Placed m (destinationBytes op b)
   unfolding destinationBytes pointee operationAt
   destination-placed b o =
-      when-true (Placed m) (eqb (op .opcode) 3) _ _
+      by-cond (Placed m) (eqb (op .opcode) 3) _ _
       (λ k. let a = movable m (v .addressSize) (program .list) i w (stores-access (op .opcode) k) in
       record {
         size = a .stored .size;
@@ -131,7 +127,7 @@ module _ (program : Program) (m : Memory) (i : ℕ) (v : Valid (lengthsOf m) (pr
   pub target-writable : (a b : ℕ) → Writable (planned program m op i a b)
   unfolding planned control exitPlan nextPlan
   target-writable a b =
-      when-true Writable (outOfBounds m op b) _ _ (λ o. nowhere m)
+      by-cond Writable (outOfBounds m op b) _ _ (λ o. nowhere m)
       (λ o. either Writable (dividesByZero op b) _ _ (nowhere m) (either Writable (exits op b) _ _ (nowhere m) (destination-placed b o)))
 
   -- ---- the low part of the log word is small
@@ -164,13 +160,13 @@ module _ (program : Program) (m : Memory) (i : ℕ) (v : Valid (lengthsOf m) (pr
   low-due : (b : ℕ) → outOfBounds m op b ≡ false → Small (lowDue op b)
   unfolding lowDue lowPart writesLog
   low-due b o =
-      when-true Small (writesLog op) _ _
-      (λ k. when-true Small (eqb (op .opcode) 5) _ _ (λ c. omega (arith, flag-lt (taken op b))) (λ n5. pointer-small b o (logs-access (op .opcode) n5 k)))
+      by-cond Small (writesLog op) _ _
+      (λ k. by-cond Small (eqb (op .opcode) 5) _ _ (λ c. omega (arith, flag-lt (taken op b))) (λ n5. pointer-small b o (logs-access (op .opcode) n5 k)))
       (λ k. omega arith)
 
   pub low-small : (a b : ℕ) → Low (planned program m op i a b)
   unfolding planned control exitPlan nextPlan
   low-small a b =
       let none : 0 ≤ mostBytes = omega arith in
-      when-true Low (outOfBounds m op b) _ _ (λ o. none)
+      by-cond Low (outOfBounds m op b) _ _ (λ o. none)
       (λ o. either Low (dividesByZero op b) _ _ none (either Low (exits op b) _ _ (low-due b o) (low-due b o)))

@@ -17,7 +17,8 @@ use Rattle.machine.specs.Program.{Program}
 use Rattle.machine.specs.Memory.{Memory, lengthsOf, spaceOf, valueAt}
 use Rattle.operation.specs.Layout.{absent}
 use Rattle.machine.specs.Effect.{Operation, pointee}
-use Rattle.machine.specs.Conditions.{exceedsSpace, outOfBounds, dividesByZero, writesLog, taken, lowPart, branchTaken, exits, destination, nextIndex, destinationBytes, valueComputed, valueMoved, valueWritten}
+use Rattle.machine.specs.Conditions.{exceedsSpace, outOfBounds, dividesByZero, writesLog, taken, lowPart, branchTaken, exits, destination, nextIndex, destinationBytes}
+use Rattle.machine.specs.Conditions.{valueComputed, valueMoved, valueWritten}
 use Rattle.run_memory.specs.Placed.{Placed}
 use Rattle.run_plan.specs.declared.Plan.{Plan}
 use Rattle.run_plan.specs.Plans.{control, stopPlan, lowDue, exitPlan, nextPlan, planned, movePlan, branchPlan, dataPlan, Movable, Branching, Computable}

@@ -14,7 +14,8 @@ use Rattle.machine.specs.Memory.{Memory, OfBytes, lengthsOf, written, valueAt}
 use Rattle.machine.specs.Effect.{Operation, operationAt}
 use Rattle.machine.specs.Run.{Position, Stepped, logWord, advanced, ended, stepped}
 use Rattle.machine.specs.Calls.{unlabelled}
-use Rattle.machine.specs.Conditions.{hasSecret, leaks, outOfBounds, dividesByZero, writesLog, logWordOf, exits, destination, nextIndex, destinationBytes, valueWritten, positionAfter, exactStepWith, labelsAfter, exactStep, Words}
+use Rattle.machine.specs.Conditions.{hasSecret, leaks, outOfBounds, dividesByZero, writesLog, logWordOf, exits, destination, nextIndex, destinationBytes, valueWritten}
+use Rattle.machine.specs.Conditions.{positionAfter, exactStepWith, labelsAfter, exactStep, Words}
 use Rattle.machine.proofs.Plain.{nothing-secret, nothing-written}
 use Rattle.machine.proofs.Conditions.{formed, few-operations, meets, one-secret}
 use Rattle.run_plan.specs.declared.Plan.{Plan}

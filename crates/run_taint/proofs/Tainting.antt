@@ -6,6 +6,7 @@ use mathlib.Core.Bool.{Bool, true, false, cond, _&&_, _||_, true≢false}
 use mathlib.Core.List.{List}
 use borrow.Author.Tests.{eqb-true, ne-eqb, lt-leb}
 use lib.Dec.{eqb}
+use Rattle.word.proofs.Tests.{by-cond}
 use Rattle.integer.proofs.Booleans.{or-false, neither}
 use Rattle.arithmetic.specs.Opcodes.{mostInputs, member}
 use Rattle.arithmetic.specs.Operands.{divides}
@@ -18,7 +19,7 @@ use Rattle.machine.specs.Conditions.{hasSecret, leaks, destinationBytes, become
 use Rattle.machine.proofs.Conditions.{absent-public}
 use Rattle.run_memory.specs.Placed.{Placed}
 use Rattle.run_plan.specs.Valid.{Valid}
-use Rattle.run_plan.proofs.Bounds.{nowhere, when-true}
+use Rattle.run_plan.proofs.Bounds.{nowhere}
 use Rattle.run_plan.proofs.Opcodes.{divides-member, each-access, each-jump, late-no-access, late-no-jump}
 use Rattle.run_plan.proofs.Places.{placed}
 
@@ -143,8 +144,8 @@ module _ (labels : Memory) (list : List ℕ) (v : Valid (lengthsOf labels) list)
 
   place-watched : Placed labels (watched (opcodeAt list i) (varnodeAt list i 1) (varnodeAt list i 2))
   place-watched =
-      when-true (Placed labels) (jumps (opcodeAt list i)) _ _ (λ j. place 1 (omega arith) (λ z. jump-no-branch (opcodeAt list i) j))
-      (λ j. when-true (Placed labels) (accesses (opcodeAt list i) || (eqb (opcodeAt list i) 5 || divides (opcodeAt list i))) _ _
+      by-cond (Placed labels) (jumps (opcodeAt list i)) _ _ (λ j. place 1 (omega arith) (λ z. jump-no-branch (opcodeAt list i) j))
+      (λ j. by-cond (Placed labels) (accesses (opcodeAt list i) || (eqb (opcodeAt list i) 5 || divides (opcodeAt list i))) _ _
       (λ k. place 2 (omega arith) (λ z. absurd (let y : ⊥ = omega arith in y))) (λ k. nowhere labels))
 
 -- a varnode that the code found, for any labels

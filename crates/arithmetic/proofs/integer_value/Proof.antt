@@ -60,11 +60,17 @@ rem-result c = nonzero (c .before .pre) 36 (c .match .keys27) refl
 
 div-requires : tie.Need-div-requires
 unfolding sizesAgree agree sizesOf rowOf opcodes divides
-div-requires c κs = let h = all-equal (c .before .pre) (agreed (c .before .pre) 37 (c .match .keys28)) in (c .before .pre .some, c .before .pre .most, h .0, h .1, nonzero (c .before .pre) 37 (c .match .keys28) refl)
+div-requires c κs =
+    let o = c .before .pre in
+    let h = all-equal o (agreed o 37 (c .match .keys28)) in
+    (o .some, o .most, h .0, h .1, nonzero o 37 (c .match .keys28) refl)
 
 rem-requires : tie.Need-rem-requires
 unfolding sizesAgree agree sizesOf rowOf opcodes divides
-rem-requires c κs = let h = all-equal (c .before .pre) (agreed (c .before .pre) 38 (c .match .keys29)) in (c .before .pre .some, c .before .pre .most, h .0, h .1, nonzero (c .before .pre) 38 (c .match .keys29) refl)
+rem-requires c κs =
+    let o = c .before .pre in
+    let h = all-equal o (agreed o 38 (c .match .keys29)) in
+    (o .some, o .most, h .0, h .1, nonzero o 38 (c .match .keys29) refl)
 
 returns : tie.Need-returns
 unfolding lookup integerResults

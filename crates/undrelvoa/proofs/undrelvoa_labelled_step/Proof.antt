@@ -17,7 +17,8 @@ returns-2 c =
     let with-log = at-report .before .before .before in
     let with-labels = with-log .before .before .before .before in
     let with-ram = with-labels .before .before .before .before in
-    let at-run = with-ram .before .before .before .before .before in
+    let with-register = with-ram .before .before in
+    let at-run = with-register .before .before .before in
     let lent = at-run .before .before .before .before in
     let checked = lent .before .before .before .before in
     (rw (le-leb reportLength _ (checked .if1 .left)) refl, rw (at-report .write-report .ensures) (ap (after _) (at-run .labelled-step .ensures)))

@@ -17,7 +17,8 @@ returns-2 c =
     let with-log = at-report .before .before .before in
     let with-register = with-log .before .before .before .before in
     let at-run = with-register .before .before .before in
-    let checked = at-run .before .before .before .before .before in
+    let lent = at-run .before .before in
+    let checked = lent .before .before .before in
     (rw (le-leb reportLength _ (checked .if1 .left)) refl, rw (at-report .write-report .ensures) (ap (after _) (at-run .step .ensures)))
 
 pub undrelvoa-step-spec : {M : Type 1} → statement M

@@ -4,7 +4,8 @@ use mathlib.Core.Bool.{false}
 use mathlib.Core.Path.{_≡_, refl, sym, _∙_}
 use native.Mathlib.Omega.{arith}
 use borrow.Author.Needs.{needs}
-use Rattle.validation.proofs.Walk.{first-start, first-skip, left-at-end, left-at, any-none, any-grows, at-head, at-shape, at-place, at-range, at-last, fault-of, shape-of, varnode-of, same-place, same-range}
+use Rattle.validation.proofs.Walk.{first-start, first-skip, left-at-end, left-at, any-none, any-grows, at-head, at-shape, at-place, at-range, at-last, fault-of}
+use Rattle.validation.proofs.Walk.{shape-of, varnode-of, same-place, same-range}
 use Rattle.arithmetic.specs.Opcodes.{mostInputs}
 use Rattle.operation.specs.Layout.{operationCount, opcodeAt, varnodeAt}
 use Rattle.operation.specs.Decoding.{decodedAt}

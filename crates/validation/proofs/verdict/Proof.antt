@@ -12,11 +12,23 @@ returns c = rw (sym (c .before .before .settings-in-range .ensures) ∙ not-true
 
 returns-2 : tie.Need-returns-2
 unfolding verdict
-returns-2 c = rw (sym (c .before .before .before .before .settings-in-range .ensures) ∙ not-false _ (c .before .before .before .if1 .left), sym (c .before .before .lengths-in-range .ensures) ∙ not-true _ (c .before .if2 .taken)) (c .refusal-report2 .ensures)
+returns-2 c =
+    let at-lengths = c .before .before in
+    let past-settings = at-lengths .before in
+    rw (sym (past-settings .before .settings-in-range .ensures) ∙ not-false _ (past-settings .if1 .left), sym (at-lengths .lengths-in-range .ensures) ∙ not-true _ (c .before .if2 .taken))
+    (c .refusal-report2 .ensures)
 
 returns-3 : tie.Need-returns-3
 unfolding verdict
-returns-3 c = rw (sym (c .before .before .before .before .before .settings-in-range .ensures) ∙ not-false _ (c .before .before .before .before .if1 .left), sym (c .before .before .before .lengths-in-range .ensures) ∙ not-false _ (c .before .before .if2 .left), sym (c .before .first-malformed .ensures)) (c .refusal-report3 .ensures)
+returns-3 c =
+    let past-lengths = c .before .before in
+    let past-settings = past-lengths .before .before in
+    rw (
+      sym (past-settings .before .settings-in-range .ensures) ∙ not-false _ (past-settings .if1 .left),
+      sym (past-lengths .before .lengths-in-range .ensures) ∙ not-false _ (past-lengths .if2 .left),
+      sym (c .before .first-malformed .ensures),
+    )
+    (c .refusal-report3 .ensures)
 
 pub verdict-spec : {M : Type 1} → statement M
 verdict-spec =

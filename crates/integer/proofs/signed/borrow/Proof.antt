@@ -25,7 +25,8 @@ returns c =
 returns-2 : tie.Need-returns-2
 unfolding intSub
 returns-2 c =
-    let s = c .before .before .before .before .before in
+    let at-sum = c .before .before .before .before in
+    let s = at-sum .before in
     let n = c .before .before .before .is-negative .ensures in
     ap₂ Bool·beq n (c .is-negative3 .ensures) ∙ agrees _ _
     ∙ other-sign _ _ _ _ (borrow-by-signs _ _ _ (s .pre .0) (s .pre .2) (s .pre .3) _ (c .before .before .before .before .sub .ensures))

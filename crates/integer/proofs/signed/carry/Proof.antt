@@ -26,7 +26,8 @@ returns c =
 returns-2 : tie.Need-returns-2
 unfolding intAdd
 returns-2 c =
-    let s = c .before .before .before .before .before in
+    let at-sum = c .before .before .before .before in
+    let s = at-sum .before in
     let n = c .before .before .before .is-negative .ensures in
     ap₂ (λ (p q : Bool). not (Bool·beq p q)) n (c .is-negative3 .ensures) ∙ differs _ _
     ∙ other-sign _ _ _ _ (carry-by-signs _ _ _ (s .pre .0) (s .pre .2) (s .pre .3) _ (c .before .before .before .before .add .ensures))

@@ -5,13 +5,26 @@ use Rattle.integer.proofs.signed.rem.Statement.{statement}
 use Rattle.integer.proofs.signed.rem.Tie as tie
 
 returns : tie.Need-returns
-returns c = srem-by-minus-one _ _ _ (c .before .before .value-of .result) (c .before .value-of2 .result) (record { sfits = c .before .before .value-of .ok }) (record { sfits = c .before .value-of2 .ok }) (c .before .before .value-of .ensures) (c .before .value-of2 .ensures) (c .if1 .taken)
+returns c =
+    let at-b = c .before in
+    let at-a = at-b .before in
+    srem-by-minus-one _ _ _ (at-a .value-of .result) (at-b .value-of2 .result) (record { sfits = at-a .value-of .ok }) (record { sfits = at-b .value-of2 .ok })
+    (at-a .value-of .ensures) (at-b .value-of2 .ensures) (c .if1 .taken)
 
 rem-wrapped : tie.Need-rem-wrapped
-rem-wrapped c = divides _ _ _ (c .before .before .value-of .result) (c .before .value-of2 .result) (record { sfits = c .before .before .value-of .ok }) (record { sfits = c .before .value-of2 .ok }) (c .before .before .value-of .ensures) (c .before .value-of2 .ensures) (c .before .before .before .pre .3) (c .before .before .before .pre .4) (λ x y. c .if1 .left x)
+rem-wrapped c =
+    let at-b = c .before in
+    let at-a = at-b .before in
+    let pre = at-a .before .pre in
+    divides _ _ _ (at-a .value-of .result) (at-b .value-of2 .result) (record { sfits = at-a .value-of .ok }) (record { sfits = at-b .value-of2 .ok })
+    (at-a .value-of .ensures) (at-b .value-of2 .ensures) (pre .3) (pre .4) (λ x y. c .if1 .left x)
 
 returns-2 : tie.Need-returns-2
-returns-2 c = srem-is _ _ _ (c .before .before .before .value-of .result) (c .before .before .value-of2 .result) (record { sfits = c .before .before .before .value-of .ok }) (record { sfits = c .before .before .value-of2 .ok }) (c .before .before .before .value-of .ensures) (c .before .before .value-of2 .ensures) _ (c .wrapped .ensures)
+returns-2 c =
+    let at-b = c .before .before in
+    let at-a = at-b .before in
+    srem-is _ _ _ (at-a .value-of .result) (at-b .value-of2 .result) (record { sfits = at-a .value-of .ok }) (record { sfits = at-b .value-of2 .ok })
+    (at-a .value-of .ensures) (at-b .value-of2 .ensures) _ (c .wrapped .ensures)
 
 pub rem-spec : {M : Type 1} → statement M
 rem-spec =
