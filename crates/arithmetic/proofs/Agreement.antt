@@ -47,7 +47,7 @@ by-sentence none A size size0 size1 = refl
 module _ {opcode size size0 size1 a b : ℕ} (o : Operands opcode size size0 size1 a b) where
   -- rule 25 at the opcode's number
   pub agreed : (k : ℕ) → opcode ≡ k → sizesAgree (o .addressSize) k size size0 size1 ≡ true
-  agreed k e = subst (λ (n : ℕ). sizesAgree (o .addressSize) n size size0 size1 ≡ true) e (o .agree)
+  agreed k e = subst (λ (n : ℕ). sizesAgree (o .addressSize) n size size0 size1 ≡ true) e (o .sizes)
 
   pub nonzero : (k : ℕ) → opcode ≡ k → divides k ≡ true → 0 < b
   nonzero k e d = o .divisor (ap divides e ∙ d)

@@ -53,7 +53,7 @@ few-inputs n last most (row ∷ rows) t =
     either-row (eqb n (row .0)) row (rowOf n rows) most l (few-inputs n last most rows (e .1))
 
 -- a number past the last opcode has no varnodes and no sizes
-pub past-last : (n : ℕ) → lastOpcode < n → rowOf n opcodes ≡ (n, 0, 0, none)
+past-last : (n : ℕ) → lastOpcode < n → rowOf n opcodes ≡ (n, 0, 0, none)
 unfolding opcodes
 past-last n h = no-row n lastOpcode mostInputs opcodes refl h
 
@@ -82,7 +82,7 @@ no-place k place h =
 
 -- ---- sets of opcodes
 
-pub flag-one : (t : Bool) → eqb (flag t) 1 ≡ t
+flag-one : (t : Bool) → eqb (flag t) 1 ≡ t
 unfolding flag
 flag-one true = refl
 flag-one false = refl
@@ -110,21 +110,33 @@ set-place : (set place : ℕ) → set < 2 ^ 64 → tabulate 64 (λ k. digit 2 se
     → (k : ℕ) → eqb (digit 2 set k) 1 ≡ hasPlace k place
 set-place set place small same = set-tells set (λ k. hasPlace k place) small (past-place place) same
 
-pub with-output : (k : ℕ) → eqb (digit 2 8796093021190 k) 1 ≡ hasPlace k 0
-unfolding hasPlace outputs inputs rowOf opcodes flag tabulate digit
-with-output = set-place 8796093021190 0 (lit< tt) refl
+abbrev withOutputSet : ℕ
+withOutputSet = 0x7fffffffc06
 
-pub with-input0 : (k : ℕ) → eqb (digit 2 8796093022206 k) 1 ≡ hasPlace k 1
+pub with-output : (k : ℕ) → eqb (digit 2 withOutputSet k) 1 ≡ hasPlace k 0
 unfolding hasPlace outputs inputs rowOf opcodes flag tabulate digit
-with-input0 = set-place 8796093022206 1 (lit< tt) refl
+with-output = set-place withOutputSet 0 (lit< tt) refl
 
-pub with-input1 : (k : ℕ) → eqb (digit 2 8246134303788 k) 1 ≡ hasPlace k 2
-unfolding hasPlace outputs inputs rowOf opcodes flag tabulate digit
-with-input1 = set-place 8246134303788 2 (lit< tt) refl
+abbrev withInput0Set : ℕ
+withInput0Set = 0x7fffffffffe
 
-pub with-input2 : (k : ℕ) → eqb (digit 2 8 k) 1 ≡ hasPlace k 3
+pub with-input0 : (k : ℕ) → eqb (digit 2 withInput0Set k) 1 ≡ hasPlace k 1
 unfolding hasPlace outputs inputs rowOf opcodes flag tabulate digit
-with-input2 = set-place 8 3 (lit< tt) refl
+with-input0 = set-place withInput0Set 1 (lit< tt) refl
+
+abbrev withInput1Set : ℕ
+withInput1Set = 0x77ff3e7ec2c
+
+pub with-input1 : (k : ℕ) → eqb (digit 2 withInput1Set k) 1 ≡ hasPlace k 2
+unfolding hasPlace outputs inputs rowOf opcodes flag tabulate digit
+with-input1 = set-place withInput1Set 2 (lit< tt) refl
+
+abbrev withInput2Set : ℕ
+withInput2Set = 0x8
+
+pub with-input2 : (k : ℕ) → eqb (digit 2 withInput2Set k) 1 ≡ hasPlace k 3
+unfolding hasPlace outputs inputs rowOf opcodes flag tabulate digit
+with-input2 = set-place withInput2Set 3 (lit< tt) refl
 
 -- ---- the sentences of rule 25
 
@@ -154,49 +166,82 @@ unfolding sizesOf
 set-sizes set s small other same =
     set-tells set (λ k. is (sizesOf k) s) small (λ k h. ap (λ (row : ℕ × ℕ × ℕ × Sizes). is (row .3) s) (past-last k h) ∙ other) same
 
-pub kept-set : (k : ℕ) → eqb (digit 2 15233712130 k) 1 ≡ is (sizesOf k) kept
-unfolding sizesOf rowOf opcodes is numberOf flag tabulate digit
-kept-set = set-sizes 15233712130 kept (lit< tt) refl refl
+abbrev keptSet : ℕ
+keptSet = 0x38c000002
 
-pub equal-set : (k : ℕ) → eqb (digit 2 534461284352 k) 1 ≡ is (sizesOf k) equal
+pub kept-set : (k : ℕ) → eqb (digit 2 keptSet k) 1 ≡ is (sizesOf k) kept
 unfolding sizesOf rowOf opcodes is numberOf flag tabulate digit
-equal-set = set-sizes 534461284352 equal (lit< tt) refl refl
+kept-set = set-sizes keptSet kept (lit< tt) refl refl
 
-pub compared-set : (k : ℕ) → eqb (digit 2 59236352 k) 1 ≡ is (sizesOf k) compared
-unfolding sizesOf rowOf opcodes is numberOf flag tabulate digit
-compared-set = set-sizes 59236352 compared (lit< tt) refl refl
+abbrev equalSet : ℕ
+equalSet = 0x7c70600000
 
-pub extended-set : (k : ℕ) → eqb (digit 2 1572864 k) 1 ≡ is (sizesOf k) extended
+pub equal-set : (k : ℕ) → eqb (digit 2 equalSet k) 1 ≡ is (sizesOf k) equal
 unfolding sizesOf rowOf opcodes is numberOf flag tabulate digit
-extended-set = set-sizes 1572864 extended (lit< tt) refl refl
+equal-set = set-sizes equalSet equal (lit< tt) refl refl
 
-pub boolean-set : (k : ℕ) → eqb (digit 2 7696581394432 k) 1 ≡ is (sizesOf k) boolean
-unfolding sizesOf rowOf opcodes is numberOf flag tabulate digit
-boolean-set = set-sizes 7696581394432 boolean (lit< tt) refl refl
+abbrev comparedSet : ℕ
+comparedSet = 0x387e000
 
-pub negated-set : (k : ℕ) → eqb (digit 2 549755813888 k) 1 ≡ is (sizesOf k) negated
+pub compared-set : (k : ℕ) → eqb (digit 2 comparedSet k) 1 ≡ is (sizesOf k) compared
 unfolding sizesOf rowOf opcodes is numberOf flag tabulate digit
-negated-set = set-sizes 549755813888 negated (lit< tt) refl refl
+compared-set = set-sizes comparedSet compared (lit< tt) refl refl
 
-pub joined-set : (k : ℕ) → eqb (digit 2 1024 k) 1 ≡ is (sizesOf k) joined
-unfolding sizesOf rowOf opcodes is numberOf flag tabulate digit
-joined-set = set-sizes 1024 joined (lit< tt) refl refl
+abbrev extendedSet : ℕ
+extendedSet = 0x180000
 
-pub pointer-set : (k : ℕ) → eqb (digit 2 12 k) 1 ≡ is (sizesOf k) pointer
+pub extended-set : (k : ℕ) → eqb (digit 2 extendedSet k) 1 ≡ is (sizesOf k) extended
 unfolding sizesOf rowOf opcodes is numberOf flag tabulate digit
-pointer-set = set-sizes 12 pointer (lit< tt) refl refl
+extended-set = set-sizes extendedSet extended (lit< tt) refl refl
 
-pub indirect-set : (k : ℕ) → eqb (digit 2 832 k) 1 ≡ is (sizesOf k) indirect
-unfolding sizesOf rowOf opcodes is numberOf flag tabulate digit
-indirect-set = set-sizes 832 indirect (lit< tt) refl refl
+abbrev booleanSet : ℕ
+booleanSet = 0x70000000000
 
-pub condition-set : (k : ℕ) → eqb (digit 2 32 k) 1 ≡ is (sizesOf k) condition
+pub boolean-set : (k : ℕ) → eqb (digit 2 booleanSet k) 1 ≡ is (sizesOf k) boolean
 unfolding sizesOf rowOf opcodes is numberOf flag tabulate digit
-condition-set = set-sizes 32 condition (lit< tt) refl refl
+boolean-set = set-sizes booleanSet boolean (lit< tt) refl refl
 
-pub free-set : (k : ℕ) → eqb (digit 2 6288 k) 1 ≡ is (sizesOf k) free
+abbrev negatedSet : ℕ
+negatedSet = 0x8000000000
+
+pub negated-set : (k : ℕ) → eqb (digit 2 negatedSet k) 1 ≡ is (sizesOf k) negated
 unfolding sizesOf rowOf opcodes is numberOf flag tabulate digit
-free-set = set-sizes 6288 free (lit< tt) refl refl
+negated-set = set-sizes negatedSet negated (lit< tt) refl refl
+
+abbrev joinedSet : ℕ
+joinedSet = 0x400
+
+pub joined-set : (k : ℕ) → eqb (digit 2 joinedSet k) 1 ≡ is (sizesOf k) joined
+unfolding sizesOf rowOf opcodes is numberOf flag tabulate digit
+joined-set = set-sizes joinedSet joined (lit< tt) refl refl
+
+abbrev pointerSet : ℕ
+pointerSet = 0xc
+
+pub pointer-set : (k : ℕ) → eqb (digit 2 pointerSet k) 1 ≡ is (sizesOf k) pointer
+unfolding sizesOf rowOf opcodes is numberOf flag tabulate digit
+pointer-set = set-sizes pointerSet pointer (lit< tt) refl refl
+
+abbrev indirectSet : ℕ
+indirectSet = 0x340
+
+pub indirect-set : (k : ℕ) → eqb (digit 2 indirectSet k) 1 ≡ is (sizesOf k) indirect
+unfolding sizesOf rowOf opcodes is numberOf flag tabulate digit
+indirect-set = set-sizes indirectSet indirect (lit< tt) refl refl
+
+abbrev conditionSet : ℕ
+conditionSet = 0x20
+
+pub condition-set : (k : ℕ) → eqb (digit 2 conditionSet k) 1 ≡ is (sizesOf k) condition
+unfolding sizesOf rowOf opcodes is numberOf flag tabulate digit
+condition-set = set-sizes conditionSet condition (lit< tt) refl refl
+
+abbrev freeSet : ℕ
+freeSet = 0x1890
+
+pub free-set : (k : ℕ) → eqb (digit 2 freeSet k) 1 ≡ is (sizesOf k) free
+unfolding sizesOf rowOf opcodes is numberOf flag tabulate digit
+free-set = set-sizes freeSet free (lit< tt) refl refl
 
 -- from the first integer operation on they have an output and an input0
 pub data-shape : (n : ℕ) → firstInteger ≤ n → n ≤ lastOpcode → (hasPlace n 0 ≡ true) × (hasPlace n 1 ≡ true)

@@ -39,7 +39,7 @@ agree none A size size0 size1 = false
 unfoldable pub sizesAgree : (addressSize opcode size size0 size1 : ℕ) → Bool
 sizesAgree A opcode size size0 size1 = agree (sizesOf opcode) A size size0 size1
 
--- The operands of which an operation's value is asked: sizes of 1 to 8 bytes that rule 25 allows together, each value below 256^size,
+-- The operands of which an operation's value is asked (that of an opcode below the integer operations is 0, and nobody asks for it): sizes of 1 to 8 bytes that rule 25 allows together, each value below 256^size,
 -- and no divisor of 0. No integer operation looks at the address size, so it may be any. Whether input1 is present is rule 22, and not
 -- asked here: one that is not looked at may be anything.
 pub record Operands (opcode size size0 size1 a b : ℕ) : Type 0 where
@@ -51,5 +51,5 @@ pub record Operands (opcode size size0 size1 a b : ℕ) : Type 0 where
   pub below0 : a < 256 ^ size0
   pub below1 : b < 256 ^ size1
   pub addressSize : ℕ
-  pub agree : sizesAgree addressSize opcode size size0 size1 ≡ true
+  pub sizes : sizesAgree addressSize opcode size size0 size1 ≡ true
   pub divisor : divides opcode ≡ true → 0 < b

@@ -13,44 +13,44 @@ use Rattle.case_frame.specs.declared.Frame.the-variants.{Opening, Bytes,
 -- ---- where the parts of a frame lie, behind its kind
 
 -- 01: the byte order.
-abbrev pub orderPlace : ℕ
-orderPlace = byteDigits
+abbrev pub orderColumn : ℕ
+orderColumn = byteDigits
 
 -- 01: A.
-abbrev pub addressSizePlace : ℕ
-addressSizePlace = orderPlace + byteDigits
+abbrev pub addressSizeColumn : ℕ
+addressSizeColumn = orderColumn + byteDigits
 
 -- 01: the length of unique.
-abbrev pub uniquePlace : ℕ
-uniquePlace = addressSizePlace + byteDigits
+abbrev pub uniqueColumn : ℕ
+uniqueColumn = addressSizeColumn + byteDigits
 
 -- 01: the length of register.
-abbrev pub registerPlace : ℕ
-registerPlace = uniquePlace + numberDigits
+abbrev pub registerColumn : ℕ
+registerColumn = uniqueColumn + numberDigits
 
 -- 01: the length of ram.
-abbrev pub ramPlace : ℕ
-ramPlace = registerPlace + numberDigits
+abbrev pub ramColumn : ℕ
+ramColumn = registerColumn + numberDigits
 
 -- 01: the budget.
-abbrev pub budgetPlace : ℕ
-budgetPlace = ramPlace + numberDigits
+abbrev pub budgetColumn : ℕ
+budgetColumn = ramColumn + numberDigits
 
 -- The digits of an 01 line.
 abbrev pub openingLength : ℕ
-openingLength = budgetPlace + numberDigits
+openingLength = budgetColumn + numberDigits
 
 -- 02 and 03: the space.
-abbrev pub spacePlace : ℕ
-spacePlace = byteDigits
+abbrev pub spaceColumn : ℕ
+spaceColumn = byteDigits
 
 -- 02 and 03: the offset.
-abbrev pub offsetPlace : ℕ
-offsetPlace = spacePlace + byteDigits
+abbrev pub offsetColumn : ℕ
+offsetColumn = spaceColumn + byteDigits
 
 -- 02 and 03: the bytes or labels.
-abbrev pub bytesPlace : ℕ
-bytesPlace = offsetPlace + numberDigits
+abbrev pub bytesColumn : ℕ
+bytesColumn = offsetColumn + numberDigits
 
 -- The most bytes or labels of a line.
 abbrev pub mostFrameBytes : ℕ
@@ -58,15 +58,15 @@ mostFrameBytes = 32
 
 -- The digits of a line with n bytes or labels.
 abbrev pub bytesLength : (n : ℕ) → ℕ
-bytesLength n = bytesPlace + byteDigits * n
+bytesLength n = bytesColumn + byteDigits * n
 
 -- 04: the words.
-abbrev pub wordsPlace : ℕ
-wordsPlace = byteDigits
+abbrev pub wordsColumn : ℕ
+wordsColumn = byteDigits
 
 -- The digits of an 04 line.
 abbrev pub operationLength : ℕ
-operationLength = wordsPlace + wordDigits * wordsPerOperation
+operationLength = wordsColumn + wordDigits * wordsPerOperation
 
 -- The digits of the longest line that is a frame.
 abbrev pub longestFrame : ℕ
@@ -79,16 +79,16 @@ unfoldable pub openingOf : (line : List ℕ) → Frame
 openingOf s =
     cond (eqb (length s) openingLength)
     (Opening
-    (record { order = numberAt s orderPlace byteDigits; «address_size» = numberAt s addressSizePlace byteDigits })
-    (record { unique = numberAt s uniquePlace numberDigits; register = numberAt s registerPlace numberDigits; ram = numberAt s ramPlace numberDigits })
-    (numberAt s budgetPlace numberDigits))
+    (record { order = numberAt s orderColumn byteDigits; «address_size» = numberAt s addressSizeColumn byteDigits })
+    (record { unique = numberAt s uniqueColumn numberDigits; register = numberAt s registerColumn numberDigits; ram = numberAt s ramColumn numberDigits })
+    (numberAt s budgetColumn numberDigits))
     Bad
 
 -- 02: space, offset (8), 1 to 32 bytes; 03: the same with labels.
 unfoldable pub bytesFrameOf : (labels : Bool) → (line : List ℕ) → Frame
 bytesFrameOf labels s =
     cond (leb (bytesLength 1) (length s) && leb (length s) (bytesLength mostFrameBytes) && eqb (length s % byteDigits) 0)
-    (Bytes labels (numberAt s spacePlace byteDigits) (numberAt s offsetPlace numberDigits) ((length s - bytesPlace) / byteDigits))
+    (Bytes labels (numberAt s spaceColumn byteDigits) (numberAt s offsetColumn numberDigits) ((length s - bytesColumn) / byteDigits))
     Bad
 
 -- The bytes or labels of such a line, of which it has n.
@@ -101,7 +101,7 @@ operationOf s = cond (eqb (length s) operationLength) Operation Bad
 
 -- The words of such a line.
 unfoldable pub wordsOn : (line : List ℕ) → List ℕ
-wordsOn s = tabulate wordsPerOperation (λ k. numberAt s (wordsPlace + wordDigits * k) wordDigits)
+wordsOn s = tabulate wordsPerOperation (λ k. numberAt s (wordsColumn + wordDigits * k) wordDigits)
 
 -- The frame's kind is its first two digits.
 unfoldable pub frameBy : (kind : ℕ) → (line : List ℕ) → Frame

@@ -16,37 +16,37 @@ use operation::layout::Settings;
 use operation::layout::WORDS_PER_OPERATION;
 
 // Where the parts of frame 01 lie, behind its kind, and the digits of its line.
-const ORDER_PLACE: usize = BYTE_DIGITS;
+const ORDER_COLUMN: usize = BYTE_DIGITS;
 
-const ADDRESS_SIZE_PLACE: usize = ORDER_PLACE + BYTE_DIGITS;
+const ADDRESS_SIZE_COLUMN: usize = ORDER_COLUMN + BYTE_DIGITS;
 
-const UNIQUE_PLACE: usize = ADDRESS_SIZE_PLACE + BYTE_DIGITS;
+const UNIQUE_COLUMN: usize = ADDRESS_SIZE_COLUMN + BYTE_DIGITS;
 
-const REGISTER_PLACE: usize = UNIQUE_PLACE + NUMBER_DIGITS;
+const REGISTER_COLUMN: usize = UNIQUE_COLUMN + NUMBER_DIGITS;
 
-const RAM_PLACE: usize = REGISTER_PLACE + NUMBER_DIGITS;
+const RAM_COLUMN: usize = REGISTER_COLUMN + NUMBER_DIGITS;
 
-const BUDGET_PLACE: usize = RAM_PLACE + NUMBER_DIGITS;
+const BUDGET_COLUMN: usize = RAM_COLUMN + NUMBER_DIGITS;
 
-const OPENING_LENGTH: usize = BUDGET_PLACE + NUMBER_DIGITS;
+const OPENING_LENGTH: usize = BUDGET_COLUMN + NUMBER_DIGITS;
 
 // Those of frames 02 and 03, the bytes that one can have, and the digits of a line with one byte and with the most.
-const SPACE_PLACE: usize = BYTE_DIGITS;
+const SPACE_COLUMN: usize = BYTE_DIGITS;
 
-const OFFSET_PLACE: usize = SPACE_PLACE + BYTE_DIGITS;
+const OFFSET_COLUMN: usize = SPACE_COLUMN + BYTE_DIGITS;
 
-pub const BYTES_PLACE: usize = OFFSET_PLACE + NUMBER_DIGITS;
+pub const BYTES_COLUMN: usize = OFFSET_COLUMN + NUMBER_DIGITS;
 
 const MOST_FRAME_BYTES: usize = 32;
 
-const SHORTEST_BYTES: usize = BYTES_PLACE + BYTE_DIGITS;
+const SHORTEST_BYTES: usize = BYTES_COLUMN + BYTE_DIGITS;
 
-const LONGEST_BYTES: usize = BYTES_PLACE + BYTE_DIGITS * MOST_FRAME_BYTES;
+const LONGEST_BYTES: usize = BYTES_COLUMN + BYTE_DIGITS * MOST_FRAME_BYTES;
 
 // Those of frame 04.
-const WORDS_PLACE: usize = BYTE_DIGITS;
+const WORDS_COLUMN: usize = BYTE_DIGITS;
 
-const OPERATION_LENGTH: usize = WORDS_PLACE + WORD_DIGITS * WORDS_PER_OPERATION;
+const OPERATION_LENGTH: usize = WORDS_COLUMN + WORD_DIGITS * WORDS_PER_OPERATION;
 
 // The digits of the longest line that is a frame.
 pub const LONGEST_FRAME: usize = if OPERATION_LENGTH < LONGEST_BYTES {
@@ -108,12 +108,12 @@ fn opening_of(s: &[u8]) -> Frame
     if s.len() != OPENING_LENGTH {
         return Frame::Bad;
     }
-    let order = number(s, ORDER_PLACE, BYTE_DIGITS);
-    let address_size = number(s, ADDRESS_SIZE_PLACE, BYTE_DIGITS);
-    let unique = number(s, UNIQUE_PLACE, NUMBER_DIGITS);
-    let register = number(s, REGISTER_PLACE, NUMBER_DIGITS);
-    let ram = number(s, RAM_PLACE, NUMBER_DIGITS);
-    let budget = number(s, BUDGET_PLACE, NUMBER_DIGITS);
+    let order = number(s, ORDER_COLUMN, BYTE_DIGITS);
+    let address_size = number(s, ADDRESS_SIZE_COLUMN, BYTE_DIGITS);
+    let unique = number(s, UNIQUE_COLUMN, NUMBER_DIGITS);
+    let register = number(s, REGISTER_COLUMN, NUMBER_DIGITS);
+    let ram = number(s, RAM_COLUMN, NUMBER_DIGITS);
+    let budget = number(s, BUDGET_COLUMN, NUMBER_DIGITS);
     Frame::Opening {
         settings: Settings {
             order: order,
@@ -134,13 +134,13 @@ fn bytes_frame_of(labels: bool, s: &[u8]) -> Frame
     let n = s.len();
     let in_range = both(SHORTEST_BYTES <= n, n <= LONGEST_BYTES);
     if both(in_range, n % BYTE_DIGITS == 0) {
-        let space = number(s, SPACE_PLACE, BYTE_DIGITS);
-        let offset = number(s, OFFSET_PLACE, NUMBER_DIGITS);
+        let space = number(s, SPACE_COLUMN, BYTE_DIGITS);
+        let offset = number(s, OFFSET_COLUMN, NUMBER_DIGITS);
         return Frame::Bytes {
             labels: labels,
             space: space,
             offset: offset,
-            count: (n - BYTES_PLACE) / BYTE_DIGITS,
+            count: (n - BYTES_COLUMN) / BYTE_DIGITS,
         };
     }
     Frame::Bad
@@ -157,25 +157,25 @@ fn operation_of(s: &[u8]) -> Frame
 }
 
 // Stores the bytes of a 02 line, or the labels of a 03 line, at a place.
-pub fn put_bytes(s: &[u8], n: usize, memory: &mut [u8], place: usize)
+pub fn store_bytes(s: &[u8], n: usize, memory: &mut [u8], place: usize)
     requires { ⌜ (bytesLength n ≤ length (now s)) × (place + n ≤ length (now memory)) ⌝ }
     ensures { λ _. ⌜ now (memory .exit) ≡ sets (now (memory .entry)) place (bytesOn n (now (s .entry))) ⌝ }
 {
     let mut i = 0;
     while i < n {
-        memory[place + i] = number(s, BYTES_PLACE + BYTE_DIGITS * i, BYTE_DIGITS) as u8;
+        memory[place + i] = number(s, BYTES_COLUMN + BYTE_DIGITS * i, BYTE_DIGITS) as u8;
         i += 1;
     }
 }
 
 // Stores the words of a 04 line at a place.
-pub fn put_words(s: &[u8], words: &mut [u64], place: usize)
+pub fn store_words(s: &[u8], words: &mut [u64], place: usize)
     requires { ⌜ (operationLength ≤ length (now s)) × (place + wordsPerOperation ≤ length (now words)) ⌝ }
     ensures { λ _. ⌜ now (words .exit) ≡ sets (now (words .entry)) place (wordsOn (now (s .entry))) ⌝ }
 {
     let mut i = 0;
     while i < WORDS_PER_OPERATION {
-        words[place + i] = number(s, WORDS_PLACE + WORD_DIGITS * i, WORD_DIGITS);
+        words[place + i] = number(s, WORDS_COLUMN + WORD_DIGITS * i, WORD_DIGITS);
         i += 1;
     }
 }

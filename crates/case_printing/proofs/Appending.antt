@@ -7,7 +7,7 @@ use native.Mathlib.Numerals.{add-one}
 use native.Mathlib.Omega.{arith}
 use lib.ListN.{length, take, drop, set, length-append, length-set, take-append-drop}
 use lib.Seq.{append-snoc, set-split, take-at, length-take-le, drop-append-add, drop-drop}
-use Rattle.case_printing.specs.Text.{joined}
+use Rattle.case_printing.specs.Text.{concatenated}
 use Rattle.case_printing.specs.Appended.{Appended}
 
 pub put-none : (o : List ℕ) (at : ℕ) → at ≤ length o → Appended at o [] at o
@@ -59,11 +59,11 @@ module _ {at : ℕ} {o x : List ℕ} {p : ℕ} {o₁ : List ℕ} (first : Append
   past m h = (omega (arith, first .next), first .long)
 
 -- a loop that puts the texts one by one: before its first turn, and after one turn more
-pub joined-none : (o : List ℕ) (at : ℕ) (f : ℕ → List ℕ) → at ≤ length o → Appended at o (joined 0 f) at o
-unfolding joined
-joined-none o at f h = put-none o at h
+pub concatenated-none : (o : List ℕ) (at : ℕ) (f : ℕ → List ℕ) → at ≤ length o → Appended at o (concatenated 0 f) at o
+unfolding concatenated
+concatenated-none o at f h = put-none o at h
 
-pub joined-then : {at : ℕ} {o : List ℕ} {p : ℕ} {o₁ : List ℕ} {r : ℕ} {o₂ : List ℕ} (i : ℕ) (f : ℕ → List ℕ)
-    → Appended at o (joined i f) p o₁ → Appended p o₁ (f i) r o₂ → Appended at o (joined (i + 1) f) r o₂
-unfolding joined
-joined-then i f first second = rw add-one (then first second)
+pub concatenated-then : {at : ℕ} {o : List ℕ} {p : ℕ} {o₁ : List ℕ} {r : ℕ} {o₂ : List ℕ} (i : ℕ) (f : ℕ → List ℕ)
+    → Appended at o (concatenated i f) p o₁ → Appended p o₁ (f i) r o₂ → Appended at o (concatenated (i + 1) f) r o₂
+unfolding concatenated
+concatenated-then i f first second = rw add-one (then first second)

@@ -1,7 +1,7 @@
 -- A bound on what a text prints.
 use Prim.Native.Nat.{ℕ, _+_, _*_}
 use Rattle.case_reader.specs.Limits.{mostCaseBytes, logWords}
-use Rattle.case_printing.specs.Text.{reportLength, wordLineLength, dumpLength, bytesPerLine, lineCount}
+use Rattle.case_printing.specs.Text.{reportTextLength, wordLineLength, dumpLength, bytesPerLine, lineCount}
 
 -- The most characters of a space.
 abbrev pub spaceTextRoom : ℕ
@@ -13,4 +13,4 @@ memoryTextRoom = 3 * spaceTextRoom
 
 -- The most characters of an output: a report, the log, memory and labels.
 abbrev pub outputRoom : ℕ
-outputRoom = reportLength + wordLineLength * logWords + 2 * memoryTextRoom
+outputRoom = reportTextLength + wordLineLength * logWords + 2 * memoryTextRoom

@@ -4,6 +4,7 @@ use mathlib.Core.Bool.{cond}
 use mathlib.Core.List.{List, [], _∷_, _++_}
 use lib.Dec.{ltb}
 use lib.ListN.{length, getD, take, drop}
+use Rattle.operation.specs.Numbers.{reportNumbers}
 use Rattle.case_hexadecimal.specs.Digits.{byteDigits, numberDigits, wordDigits}
 use Rattle.case_frame.specs.Frames.{bytesLength}
 use Rattle.case_reader.specs.Lines.{newline}
@@ -13,9 +14,9 @@ abbrev pub blank : ℕ
 blank = 32
 
 -- f 0, f 1, .. f (n - 1), one behind the other.
-unfoldable pub joined : ℕ → (ℕ → List ℕ) → List ℕ
-joined zero f = []
-joined (suc n) f = joined n f ++ f n
+unfoldable pub concatenated : ℕ → (ℕ → List ℕ) → List ℕ
+concatenated zero f = []
+concatenated (suc n) f = concatenated n f ++ f n
 
 -- The character of a digit below 16: 48 is the code of 0, and 97 that of a.
 unfoldable pub digitCode : ℕ → ℕ
@@ -48,8 +49,8 @@ unfoldable pub reportText : (a b c d e : ℕ) → List ℕ
 reportText a b c d e = fieldText a blank ++ fieldText b blank ++ fieldText c blank ++ fieldText d blank ++ fieldText e newline
 
 -- The most characters of a report.
-abbrev pub reportLength : ℕ
-reportLength = 5 * fieldLength
+abbrev pub reportTextLength : ℕ
+reportTextLength = reportNumbers * fieldLength
 
 -- A log word: 16 digits on a line.
 unfoldable pub wordLine : ℕ → List ℕ
@@ -61,11 +62,11 @@ wordLineLength = wordDigits + 1
 
 -- A log: the lines of its words.
 unfoldable pub logText : List ℕ → List ℕ
-logText words = joined (length words) (λ i. wordLine (getD words i 0))
+logText words = concatenated (length words) (λ i. wordLine (getD words i 0))
 
 -- Bytes: two digits each.
 unfoldable pub bytesText : List ℕ → List ℕ
-bytesText s = joined (length s) (λ i. hexText byteDigits (getD s i 0))
+bytesText s = concatenated (length s) (λ i. hexText byteDigits (getD s i 0))
 
 -- A line of a dump: its kind (02 for bytes, 03 for labels), the space, the offset of its first byte, and the bytes.
 unfoldable pub dumpLine : (kind space offset : ℕ) → List ℕ → List ℕ
@@ -89,4 +90,4 @@ lineBytes s k = take bytesPerLine (drop (bytesPerLine * k) s)
 
 -- A space: all its bytes, line by line.
 unfoldable pub spaceLines : (kind space : ℕ) → List ℕ → List ℕ
-spaceLines kind space s = joined (lineCount (length s)) (λ k. dumpLine kind space (bytesPerLine * k) (lineBytes s k))
+spaceLines kind space s = concatenated (lineCount (length s)) (λ k. dumpLine kind space (bytesPerLine * k) (lineBytes s k))

@@ -10,7 +10,7 @@ ghost use Rattle.case_reader.specs.Buffers.{Fits};
 ghost use Rattle.case_printing.specs.Room.{memoryTextRoom, outputRoom};
 use crate::text::BYTES_PER_LINE;
 use crate::text::DUMP_LENGTH;
-use crate::text::REPORT_LENGTH;
+use crate::text::REPORT_TEXT_LENGTH;
 use crate::text::WORD_LINE_LENGTH;
 use crate::text::put_log;
 use crate::text::put_report;
@@ -19,13 +19,16 @@ use case_reader::limits::LOG_WORDS;
 use case_reader::limits::MOST_CASE_BYTES;
 use operation::report::Report;
 
+// All lines of a space, and of the three spaces.
 const SPACE_TEXT_ROOM: usize = DUMP_LENGTH
     * ((MOST_CASE_BYTES + (BYTES_PER_LINE - 1)) / BYTES_PER_LINE);
 
+const MEMORY_TEXT_ROOM: usize = 3 * SPACE_TEXT_ROOM;
+
 // A bound on every output: a report, the log, memory and labels.
-pub const OUTPUT_ROOM: usize = REPORT_LENGTH
+pub const OUTPUT_ROOM: usize = REPORT_TEXT_LENGTH
     + WORD_LINE_LENGTH * LOG_WORDS
-    + 2 * (3 * SPACE_TEXT_ROOM);
+    + 2 * MEMORY_TEXT_ROOM;
 
 // The report, the log words written, the bytes of the spaces as 02 lines, and their labels as 03 lines.
 pub fn put_outcome(

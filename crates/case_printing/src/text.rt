@@ -3,15 +3,16 @@ ghost use mathlib.Core.Path.{_≡_};
 ghost use Prim.Native.Nat.{_+_, _*_, _≤_, _<_, min};
 ghost use lib.ListN.{length};
 ghost use Rattle.case_printing.specs.Text.{digitCode, hexText, decimalText, fieldText, reportText, wordLine, logText, bytesText, dumpLine, spaceLines};
-ghost use Rattle.case_printing.specs.Text.{fieldLength, reportLength, wordLineLength, dumpLength, bytesPerLine, lineCount};
+ghost use Rattle.case_printing.specs.Text.{fieldLength, reportTextLength, wordLineLength, dumpLength, bytesPerLine, lineCount};
 ghost use Rattle.case_printing.specs.Appended.{Appended};
 ghost use Rattle.case_hexadecimal.specs.Digits.{byteDigits};
 ghost use Rattle.case_reader.specs.Limits.{mostCaseBytes};
-use case_frame::BYTES_PLACE;
+use case_frame::BYTES_COLUMN;
 use case_hexadecimal::BYTE_DIGITS;
 use case_hexadecimal::NUMBER_DIGITS;
 use case_hexadecimal::WORD_DIGITS;
 use case_reader::stream::NEWLINE;
+use operation::report::REPORT_NUMBERS;
 use word::bytes::wide;
 
 // The most decimal digits of a 64-bit number.
@@ -20,18 +21,18 @@ const MOST_DIGITS: usize = 20;
 const FIELD_LENGTH: usize = MOST_DIGITS + 1;
 
 // The most characters of a report, of the line of a log word, and of a line of bytes.
-pub(crate) const REPORT_LENGTH: usize = 5 * FIELD_LENGTH;
+pub(crate) const REPORT_TEXT_LENGTH: usize = REPORT_NUMBERS * FIELD_LENGTH;
 
 pub(crate) const WORD_LINE_LENGTH: usize = WORD_DIGITS + 1;
 
-pub(crate) const DUMP_LENGTH: usize = BYTES_PLACE + BYTE_DIGITS * BYTES_PER_LINE + 1;
+pub(crate) const DUMP_LENGTH: usize = BYTES_COLUMN + BYTE_DIGITS * BYTES_PER_LINE + 1;
 
 // The bytes of a space that one line shows.
 pub(crate) const BYTES_PER_LINE: usize = 16;
 
 // A report on one line: five numbers, each with the character behind it.
 pub fn put_report(out: &mut [u8], at: usize, a: u64, b: u64, c: u64, d: u64, e: u64) -> usize
-    requires { ⌜ at + reportLength ≤ length (now out) ⌝ }
+    requires { ⌜ at + reportTextLength ≤ length (now out) ⌝ }
     ensures { λ r. ⌜ Appended at (now (out .entry)) (reportText a b c d e) r (now (out .exit)) ⌝ }
 {
     let p = put_field(out, at, a, b' ');
@@ -42,7 +43,7 @@ pub fn put_report(out: &mut [u8], at: usize, a: u64, b: u64, c: u64, d: u64, e: 
 }
 
 // A log, one word on a line.
-pub fn put_log(out: &mut [u8], at: usize, words: &[u64]) -> usize
+pub(crate) fn put_log(out: &mut [u8], at: usize, words: &[u64]) -> usize
     requires { ⌜ at + wordLineLength * length (now words) ≤ length (now out) ⌝ }
     ensures { λ r. ⌜ Appended at (now (out .entry)) (logText (now (words .entry))) r (now (out .exit)) ⌝ }
 {
@@ -56,7 +57,7 @@ pub fn put_log(out: &mut [u8], at: usize, words: &[u64]) -> usize
 }
 
 // All bytes of a space, line by line.
-pub fn put_space(out: &mut [u8], at: usize, kind: u64, space: u64, s: &[u8]) -> usize
+pub(crate) fn put_space(out: &mut [u8], at: usize, kind: u64, space: u64, s: &[u8]) -> usize
     requires { ⌜ (length (now s) ≤ mostCaseBytes) × (at + dumpLength bytesPerLine * lineCount (length (now s)) ≤ length (now out)) ⌝ }
     ensures { λ r. ⌜ Appended at (now (out .entry)) (spaceLines kind space (now (s .entry))) r (now (out .exit)) ⌝ }
     ensures { λ r. ⌜ r ≤ at + dumpLength bytesPerLine * lineCount (length (now (s .entry))) ⌝ }

@@ -13,7 +13,7 @@ use Rattle.case_frame.specs.Frames.{frameOf}
 use Rattle.case_frame.specs.declared.Frame.the-variants.{Bad}
 use Rattle.case_frame.proofs.Laws.{long-bad}
 use Rattle.case_reader.specs.Limits.{lineRoom}
-use Rattle.case_reader.specs.Case.{Progress, extended, afterLine}
+use Rattle.case_reader.specs.Case.{Progress, lineAdded, afterLine}
 use Rattle.case_reader.specs.Lines.{newline, linesOf, restOf, LinesRead, nextNumber, noLine, lineRead, linesRead}
 use Rattle.case_reader.specs.Buffers.{progressIn, Fed}
 use Rattle.case_reader.specs.Stream.{ReaderFits, HasRead, Advanced}
@@ -61,7 +61,7 @@ read-more r (t ∷ ss) s = read-more (lineRead r t) ss s
 -- ---- a line longer than its room is bad, whole or cut
 
 bad-alike : (n : ℕ) (s t : List ℕ) (p : Progress) → frameOf s ≡ Bad → frameOf t ≡ Bad → afterLine n s p ≡ afterLine n t p
-unfolding afterLine extended
+unfolding afterLine lineAdded
 bad-alike n s t Progress.nothing e f = rw (e, f)
 bad-alike n s t (Progress.reading c) e f = rw (e, f)
 bad-alike n s t (Progress.badLine k) e f = refl

@@ -73,24 +73,24 @@ unfoldable pub withOperation : Case → (words : List ℕ) → Case
 withOperation c words = record { settings = c .settings; budget = c .budget; memory = c .memory; labels = c .labels; list = c .list ++ words }
 
 -- Then any of 02, 03, 04.
-unfoldable pub extended : (number : ℕ) → (line : List ℕ) → Frame → Case → Progress
-extended n s (Opening settings lengths budget) c = badLine n
-extended n s (Bytes false space offset count) c =
+unfoldable pub lineAdded : (number : ℕ) → (line : List ℕ) → Frame → Case → Progress
+lineAdded n s (Opening settings lengths budget) c = badLine n
+lineAdded n s (Bytes false space offset count) c =
     cond (inSpace (c .memory) space offset count)
     (reading (withMemory c (stored (c .memory) space offset (bytesOn count s))))
     (badLine n)
-extended n s (Bytes true space offset count) c =
+lineAdded n s (Bytes true space offset count) c =
     cond (inSpace (c .labels) space offset count)
     (reading (withLabels c (stored (c .labels) space offset (bytesOn count s))))
     (badLine n)
-extended n s Operation c =
+lineAdded n s Operation c =
     cond (ltb (operationCount (c .list)) mostCaseOperations)
     (reading (withOperation c (wordsOn s)))
     (badLine n)
-extended n s Bad c = badLine n
+lineAdded n s Bad c = badLine n
 
 -- One line, without its newline. After the first bad line nothing counts.
 unfoldable pub afterLine : (number : ℕ) → (line : List ℕ) → Progress → Progress
 afterLine n s nothing = opened n (frameOf s)
-afterLine n s (reading c) = extended n s (frameOf s) c
+afterLine n s (reading c) = lineAdded n s (frameOf s) c
 afterLine n s (badLine k) = badLine k

@@ -2,19 +2,23 @@
 use case_frame::LONGEST_FRAME;
 use operation::layout::WORDS_PER_OPERATION;
 
-pub const MOST_CASE_OPERATIONS: usize = 512;
+// Operations of a list.
+pub(crate) const MOST_CASE_OPERATIONS: usize = 512;
 
-// Of a space.
+// Bytes of a space.
 pub const MOST_CASE_BYTES: usize = 4096;
 
+// Words of the log.
 pub const LOG_WORDS: usize = 1024;
 
+// The first operation of a run.
 pub const START_INDEX: u64 = 0;
 
 // For the bytes of the three spaces, or for their labels.
-pub const SPACES_ROOM: usize = 3 * MOST_CASE_BYTES;
+pub(crate) const SPACES_ROOM: usize = 3 * MOST_CASE_BYTES;
 
-pub const WORDS_ROOM: usize = WORDS_PER_OPERATION * MOST_CASE_OPERATIONS;
+// For the words of the list.
+pub(crate) const WORDS_ROOM: usize = WORDS_PER_OPERATION * MOST_CASE_OPERATIONS;
 
 // A line that fills it is longer than any frame.
-pub const LINE_ROOM: usize = LONGEST_FRAME + 1;
+pub(crate) const LINE_ROOM: usize = LONGEST_FRAME + 1;

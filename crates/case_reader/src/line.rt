@@ -11,8 +11,8 @@ use crate::limits::MOST_CASE_BYTES;
 use crate::limits::MOST_CASE_OPERATIONS;
 use case_frame::Frame;
 use case_frame::frame_of;
-use case_frame::put_bytes;
-use case_frame::put_words;
+use case_frame::store_bytes;
+use case_frame::store_words;
 use integer::boolean::both;
 use operation::layout::Lengths;
 use operation::layout::Settings;
@@ -38,7 +38,7 @@ pub enum Stage {
 }
 
 // One line, without its newline.
-pub fn feed(
+pub(crate) fn feed(
     number: u64,
     stage: Stage,
     s: &[u8],
@@ -129,17 +129,17 @@ fn continue_with(
             }
             let place = place_of(space, offset);
             if of_labels {
-                put_bytes(s, count, labels, place);
+                store_bytes(s, count, labels, place);
                 return Stage::Reading(header);
             }
-            put_bytes(s, count, memory, place);
+            store_bytes(s, count, memory, place);
             Stage::Reading(header)
         }
         Frame::Operation => {
             if header.operations == MOST_CASE_OPERATIONS {
                 return Stage::BadLine(number);
             }
-            put_words(s, words, WORDS_PER_OPERATION * header.operations);
+            store_words(s, words, WORDS_PER_OPERATION * header.operations);
             let settings = header.settings;
             let lengths = header.lengths;
             Stage::Reading(Header {

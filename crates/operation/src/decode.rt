@@ -17,6 +17,7 @@ use integer::boolean::both;
 use integer::boolean::either;
 use word::size::is_size;
 
+// What decoding answers.
 pub enum Decoded {
     Accepted(Varnode),
     Fault,

@@ -13,12 +13,14 @@ pub const WORDS_PER_OPERATION: usize = MOST_INPUTS as usize + 2;
 // Bytes of the head that are used: the opcode, then the descriptor of the output and those of the inputs.
 const HEAD_BYTES: u64 = MOST_INPUTS as u64 + 2;
 
+// A number of bytes at an offset of an address space; in space 1 the offset is the value.
 pub struct Varnode {
     pub space: u64,
     pub offset: u64,
     pub size: u64,
 }
 
+// Byte order, 0 little or 1 big, and address size.
 pub struct Settings {
     pub order: u64,
     pub address_size: u64,

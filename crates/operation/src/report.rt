@@ -1,6 +1,9 @@
 // What a call answers: paper 01's report.
 ghost use mathlib.Core.Path.{_≡_};
 
+// Numbers of a report.
+pub const REPORT_NUMBERS: usize = 5;
+
 pub struct Report {
     pub ending: u64,
     pub index: u64,

@@ -17,6 +17,7 @@ use integer::boolean::pick_test;
 use word::size::holds;
 use word::size::within;
 
+// 21 HEAD.
 pub fn breaks_head(list: &[u64], i: usize) -> bool
     requires { ⌜ wordsPerOperation * i < length (now list) ⌝ }
     ensures { λ r. ⌜ r ≡ breaksHead (now (list .entry)) i ⌝ }
@@ -26,7 +27,8 @@ pub fn breaks_head(list: &[u64], i: usize) -> bool
     either(!both(1 <= opcode, opcode <= LAST_OPCODE), spare != 0)
 }
 
-// The classes of opcodes. With a test a line the compiler makes one jump of them and the tests of their callers; with `either` it does not.
+// The classes of opcodes, a test a line: so the compiler makes one jump of them and their callers' tests. With `either` it does not.
+
 // LOAD, STORE
 pub fn accesses(opcode: u64) -> bool
     ensures { λ r. ⌜ r ≡ accesses opcode ⌝ }
@@ -63,11 +65,12 @@ pub fn jumps(opcode: u64) -> bool
     opcode == 9
 }
 
+// 23 PLACE, of the varnode at a place.
 pub fn breaks_place(opcode: u64, place: u8, v: Varnode) -> bool
     ensures { λ r. ⌜ r ≡ breaksPlace opcode place v ⌝ }
 {
     if place == 1 {
-        return breaks_place0(opcode, v);
+        return breaks_input0_place(opcode, v);
     }
     let space = v.space;
     let input1 = pick_test(opcode == 11, space != 1, false);
@@ -76,7 +79,7 @@ pub fn breaks_place(opcode: u64, place: u8, v: Varnode) -> bool
 }
 
 // The same of input0.
-fn breaks_place0(opcode: u64, v: Varnode) -> bool
+fn breaks_input0_place(opcode: u64, v: Varnode) -> bool
     ensures { λ r. ⌜ r ≡ breaksPlace opcode 1 v ⌝ }
 {
     if accesses(opcode) {
@@ -101,6 +104,7 @@ fn is_destination(v: Varnode) -> bool
     either(space == 1, space == 4)
 }
 
+// The length of a space, by its number; no other number has bytes.
 pub fn length_of(lengths: Lengths, space: u64) -> u64
     ensures { λ r. ⌜ r ≡ lengthOf lengths space ⌝ }
 {
@@ -112,6 +116,7 @@ pub fn length_of(lengths: Lengths, space: u64) -> u64
     }
 }
 
+// A varnode past its space, or a constant that its size does not hold.
 fn beyond(lengths: Lengths, v: Varnode) -> bool
     ensures { λ r. ⌜ r ≡ beyond lengths v ⌝ }
 {
@@ -125,6 +130,7 @@ fn beyond(lengths: Lengths, v: Varnode) -> bool
     !within(v.offset, v.size, length_of(lengths, space))
 }
 
+// 24 RANGE, of the varnode at a place; branch destinations are exempt.
 pub fn breaks_range(lengths: Lengths, opcode: u64, place: u8, v: Varnode) -> bool
     ensures { λ r. ⌜ r ≡ breaksRange lengths opcode place v ⌝ }
 {
@@ -134,6 +140,7 @@ pub fn breaks_range(lengths: Lengths, opcode: u64, place: u8, v: Varnode) -> boo
     beyond(lengths, v)
 }
 
+// 25 SIZE.
 pub fn breaks_size(address_size: u64, opcode: u64, size: u64, size0: u64, size1: u64) -> bool
     ensures { λ r. ⌜ r ≡ breaksSize «address_size» opcode size size0 size1 ⌝ }
 {
@@ -151,6 +158,7 @@ fn target_outside(n: u64, i: u64, offset: u64) -> bool
     i <= u64::MAX - offset
 }
 
+// 26 TARGET, of the destination of operation i.
 pub fn breaks_target(n: u64, i: u64, opcode: u64, v: Varnode) -> bool
     requires { ⌜ i ≤ n ⌝ }
     ensures { λ r. ⌜ r ≡ breaksTarget n i opcode v ⌝ }

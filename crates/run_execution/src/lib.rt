@@ -68,6 +68,7 @@ pub fn run_from(
 // A log word is its operation's index times this, and a low part.
 pub const INDEX_WEIGHT: u64 = 4294967296;
 
+// The log word of operation i with a low part.
 fn log_word(i: usize, low: u64) -> u64
     requires { ⌜ (i < mostOperations) × (low ≤ mostBytes) ⌝ }
     ensures { λ r. ⌜ r ≡ logWord i low ⌝ }

@@ -10,7 +10,7 @@ ghost use Rattle.operation.specs.Rules.{accesses};
 ghost use Rattle.machine.specs.Program.{programOf};
 ghost use Rattle.machine.specs.Memory.{spaces, lengthsOf};
 ghost use Rattle.machine.specs.Effect.{operationAt};
-ghost use Rattle.machine.specs.Run.{stepped, continued, run};
+ghost use Rattle.machine.specs.Run.{run};
 ghost use Rattle.machine.specs.Calls.{outcomeOf, labelledOutcome};
 ghost use Rattle.machine.specs.Conditions.{leaks, labelsAfter};
 ghost use Rattle.run_plan.specs.Valid.{Valid};
@@ -81,47 +81,6 @@ pub fn run_any(
             return run_report(done.ending, i, executed, k, done.value);
         }
     }
-}
-
-// One operation, at any index up to n and from any log word on. It is for a speculation window, and nothing calls it yet.
-pub fn one_operation(
-    labelled: bool,
-    settings: Settings,
-    list: &[u64],
-    unique: &mut [u8],
-    register: &mut [u8],
-    ram: &mut [u8],
-    unique_labels: &mut [u8],
-    register_labels: &mut [u8],
-    ram_labels: &mut [u8],
-    log: &mut [u64],
-    i: usize,
-    k: usize,
-) -> Report
-    requires { ⌜ Valid (lengthsOf (spaces (now unique) (now register) (now ram))) (now list) × (i ≤ operationCount (now list)) × (k ≤ length (now log))
-        × Fitting labelled (spaces (now «unique_labels») (now «register_labels») (now «ram_labels»)) (spaces (now unique) (now register) (now ram)) ⌝ }
-    ensures { λ r. ⌜ labelledOutcome r (spaces (now (unique .exit)) (now (register .exit)) (now (ram .exit)))
-        (spaces (now («unique_labels» .exit)) (now («register_labels» .exit)) (now («ram_labels» .exit))) (now (log .exit))
-        ≡ outcomeOf (now (log .entry)) (continued (run (programOf settings (now (list .entry))) 0)
-        (stepped (programOf settings (now (list .entry))) (position i k 0 (now (log .entry)))
-        (spaces (now («unique_labels» .entry)) (now («register_labels» .entry)) (now («ram_labels» .entry)))
-        (spaces (now (unique .entry)) (now (register .entry)) (now (ram .entry))))) ⌝ }
-{
-    run_any(
-        labelled,
-        settings,
-        list,
-        unique,
-        register,
-        ram,
-        unique_labels,
-        register_labels,
-        ram_labels,
-        log,
-        i,
-        k,
-        1,
-    )
 }
 
 // The budget of a turn, one operation or all of them. It is the same for each: a run goes on only with budget left.

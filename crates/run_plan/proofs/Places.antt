@@ -108,7 +108,7 @@ module _ (m : Memory) (addressSize : ℕ) (list : List ℕ) (i : ℕ) (w : WellF
           below0 = rw ea (f .fits0 nb);
           below1 = rw eb (f .fits1);
           addressSize = addressSize;
-          agree = sizes;
+          sizes = sizes;
           divisor = d;
         };
   }

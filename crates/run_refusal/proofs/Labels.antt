@@ -9,12 +9,12 @@ use lib.Dec.{eqb, leb}
 use lib.ListN.{length, getD}
 use Rattle.machine.specs.Calls.{allLabels}
 
-pub all-in-range : (ls : List ℕ) → ((k : ℕ) → k < length ls → getD ls k 0 ≤ 1) → allLabels ls ≡ true
+all-in-range : (ls : List ℕ) → ((k : ℕ) → k < length ls → getD ls k 0 ≤ 1) → allLabels ls ≡ true
 unfolding allLabels
 all-in-range [] h = refl
 all-in-range (l ∷ ls) h = rw (le-leb l 1 (h 0 (omega arith))) (all-in-range ls (λ k b. h (suc k) (omega arith)))
 
-pub one-above : (ls : List ℕ) (k : ℕ) → k < length ls → 1 < getD ls k 0 → allLabels ls ≡ false
+one-above : (ls : List ℕ) (k : ℕ) → k < length ls → 1 < getD ls k 0 → allLabels ls ≡ false
 unfolding allLabels
 one-above [] k b h = absurd (let z : ⊥ = omega arith in z)
 one-above (l ∷ ls) zero b h = rw (lt-leb l 1 h)

@@ -99,8 +99,8 @@ fn early_ending(
     ensures { λ r. ⌜ r ≡ cond (not (settingsInRange settings)) 10 (cond (not (lengthsInRange lengths (now (list .entry)) && fitting)) 11 (cond (not valid) 12 0)) ⌝ }
 {
     let in_range = both(lengths_in_range(lengths, list), fitting);
-    let unlabelled = pick(!in_range, 11, pick(!valid, 12, 0));
-    pick(!settings_in_range(settings), 10, unlabelled)
+    let lengths_or_labels = pick(!in_range, 11, pick(!valid, 12, 0));
+    pick(!settings_in_range(settings), 10, lengths_or_labels)
 }
 
 // 11 LENGTH, for labels: label and space lengths unequal.
@@ -134,6 +134,7 @@ fn all_labels(labels: &[u8]) -> bool
     most <= 1
 }
 
+// The larger of two labels.
 fn larger(a: u8, b: u8) -> u8
     ensures { λ r. ⌜ r ≡ max a b ⌝ }
 {

@@ -24,6 +24,7 @@ pub fn show<'a>(
     }
 }
 
+// The part of one space.
 fn shown_in<'a>(s: &'a [u8], offset: u64, size: u64) -> &'a [u8]
     ensures { λ r. ⌜ view r ≡ shownIn (s .entry) offset size ⌝ }
 {
@@ -36,6 +37,7 @@ fn shown_in<'a>(s: &'a [u8], offset: u64, size: u64) -> &'a [u8]
     }
 }
 
+// A size of 1 to 8, and a place within a space of n bytes.
 fn showable(n: usize, offset: u64, size: u64) -> bool
     ensures { λ r. ⌜ r ≡ showable n offset size ⌝ }
 {

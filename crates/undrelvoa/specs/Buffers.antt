@@ -13,10 +13,6 @@ use Rattle.machine.specs.Calls.{Outcome, unlabelled}
 unfoldable pub roomFault : (words room : ℕ) → ℕ
 roomFault words room = cond (leb words room) 0 11
 
--- Words of a report.
-abbrev pub reportLength : ℕ
-reportLength = 5
-
 -- A report in its words: ending, index, operations executed, log words written, value.
 unfoldable pub reportWords : Report → List ℕ
 reportWords r = r .ending ∷ r .index ∷ r .executed ∷ r .logged ∷ r .value ∷ []

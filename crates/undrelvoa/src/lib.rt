@@ -11,16 +11,17 @@ ghost use Rattle.word.specs.Word.{part, valueOf, bytesOf};
 ghost use Rattle.arithmetic.specs.Result.{result};
 ghost use Rattle.machine.specs.Memory.{spaces};
 ghost use Rattle.machine.specs.Calls.{plainRun, plainStep, labelledRun, labelledStep};
+ghost use Rattle.operation.specs.Numbers.{reportNumbers};
 ghost use Rattle.undrelvoa_faults.specs.Faults.{valueFault, gatherFault, scatterFault};
-ghost use Rattle.undrelvoa.specs.Buffers.{roomFault, reportLength, settingsOf, plainBuffers, labelledBuffers, after};
+ghost use Rattle.undrelvoa.specs.Buffers.{roomFault, settingsOf, plainBuffers, labelledBuffers, after};
 ghost use Rattle.undrelvoa.specs.Answers.{verdictWords, shownLength, placeLength, placeWords};
 use operation::layout::Lengths;
 use operation::layout::Settings;
+use operation::report::REPORT_NUMBERS;
 use undrelvoa_faults::of_gather;
 use undrelvoa_faults::of_scatter;
 use undrelvoa_faults::of_value;
 use words::PLACE_WORDS;
-use words::REPORT_WORDS;
 use words::write_place;
 use words::write_report;
 
@@ -95,10 +96,10 @@ pub extern "C" fn undrelvoa_validate(
     list: &[u64],
     report: &mut [u64],
 ) -> u64
-    ensures answer { λ r. ⌜ r ≡ roomFault reportLength (length (now (report .entry))) ⌝ }
+    ensures answer { λ r. ⌜ r ≡ roomFault reportNumbers (length (now (report .entry))) ⌝ }
     ensures buffer { λ r. ⌜ now (report .exit) ≡ cond (eqb r 0) (sets (now (report .entry)) 0 (verdictWords order «address_size» unique register ram (now (list .entry)))) (now (report .entry)) ⌝ }
 {
-    if report.len() < REPORT_WORDS {
+    if report.len() < REPORT_NUMBERS {
         return 11;
     }
     let settings = Settings {
@@ -128,13 +129,13 @@ pub extern "C" fn undrelvoa_run(
     log: &mut [u64],
     report: &mut [u64],
 ) -> u64
-    ensures answer { λ r. ⌜ r ≡ roomFault reportLength (length (now (report .entry))) ⌝ }
+    ensures answer { λ r. ⌜ r ≡ roomFault reportNumbers (length (now (report .entry))) ⌝ }
     ensures buffers { λ r. ⌜ plainBuffers (spaces (now (unique .exit)) (now (register .exit)) (now (ram .exit))) (now (log .exit)) (now (report .exit))
         ≡ cond (eqb r 0)
         (after (now (report .entry)) (plainRun (settingsOf order «address_size») (now (list .entry)) start budget (now (log .entry)) (spaces (now (unique .entry)) (now (register .entry)) (now (ram .entry)))))
         (plainBuffers (spaces (now (unique .entry)) (now (register .entry)) (now (ram .entry))) (now (log .entry)) (now (report .entry))) ⌝ }
 {
-    if report.len() < REPORT_WORDS {
+    if report.len() < REPORT_NUMBERS {
         return 11;
     }
     let settings = Settings {
@@ -158,13 +159,13 @@ pub extern "C" fn undrelvoa_step(
     log: &mut [u64],
     report: &mut [u64],
 ) -> u64
-    ensures answer { λ r. ⌜ r ≡ roomFault reportLength (length (now (report .entry))) ⌝ }
+    ensures answer { λ r. ⌜ r ≡ roomFault reportNumbers (length (now (report .entry))) ⌝ }
     ensures buffers { λ r. ⌜ plainBuffers (spaces (now (unique .exit)) (now (register .exit)) (now (ram .exit))) (now (log .exit)) (now (report .exit))
         ≡ cond (eqb r 0)
         (after (now (report .entry)) (plainStep (settingsOf order «address_size») (now (list .entry)) start (now (log .entry)) (spaces (now (unique .entry)) (now (register .entry)) (now (ram .entry)))))
         (plainBuffers (spaces (now (unique .entry)) (now (register .entry)) (now (ram .entry))) (now (log .entry)) (now (report .entry))) ⌝ }
 {
-    if report.len() < REPORT_WORDS {
+    if report.len() < REPORT_NUMBERS {
         return 11;
     }
     let settings = Settings {
@@ -192,7 +193,7 @@ pub extern "C" fn undrelvoa_labelled_run(
     log: &mut [u64],
     report: &mut [u64],
 ) -> u64
-    ensures answer { λ r. ⌜ r ≡ roomFault reportLength (length (now (report .entry))) ⌝ }
+    ensures answer { λ r. ⌜ r ≡ roomFault reportNumbers (length (now (report .entry))) ⌝ }
     ensures buffers { λ r. ⌜ labelledBuffers (spaces (now (unique .exit)) (now (register .exit)) (now (ram .exit)))
         (spaces (now («unique_labels» .exit)) (now («register_labels» .exit)) (now («ram_labels» .exit))) (now (log .exit)) (now (report .exit))
         ≡ cond (eqb r 0)
@@ -202,7 +203,7 @@ pub extern "C" fn undrelvoa_labelled_run(
         (labelledBuffers (spaces (now (unique .entry)) (now (register .entry)) (now (ram .entry)))
         (spaces (now («unique_labels» .entry)) (now («register_labels» .entry)) (now («ram_labels» .entry))) (now (log .entry)) (now (report .entry))) ⌝ }
 {
-    if report.len() < REPORT_WORDS {
+    if report.len() < REPORT_NUMBERS {
         return 11;
     }
     let settings = Settings {
@@ -241,7 +242,7 @@ pub extern "C" fn undrelvoa_labelled_step(
     log: &mut [u64],
     report: &mut [u64],
 ) -> u64
-    ensures answer { λ r. ⌜ r ≡ roomFault reportLength (length (now (report .entry))) ⌝ }
+    ensures answer { λ r. ⌜ r ≡ roomFault reportNumbers (length (now (report .entry))) ⌝ }
     ensures buffers { λ r. ⌜ labelledBuffers (spaces (now (unique .exit)) (now (register .exit)) (now (ram .exit)))
         (spaces (now («unique_labels» .exit)) (now («register_labels» .exit)) (now («ram_labels» .exit))) (now (log .exit)) (now (report .exit))
         ≡ cond (eqb r 0)
@@ -251,7 +252,7 @@ pub extern "C" fn undrelvoa_labelled_step(
         (labelledBuffers (spaces (now (unique .entry)) (now (register .entry)) (now (ram .entry)))
         (spaces (now («unique_labels» .entry)) (now («register_labels» .entry)) (now («ram_labels» .entry))) (now (log .entry)) (now (report .entry))) ⌝ }
 {
-    if report.len() < REPORT_WORDS {
+    if report.len() < REPORT_NUMBERS {
         return 11;
     }
     let settings = Settings {
@@ -307,7 +308,7 @@ fn value_of(big: bool, bytes: &[u8], at: usize, size: usize) -> u64
     }
 }
 
-// Stores the bytes of a value, in the same way.
+// Stores the bytes of a value, in the same way: as the one writer of a run does, which is compiled into the run and has no second caller.
 fn store(big: bool, bytes: &mut [u8], at: usize, size: usize, value: u64)
     requires { ⌜ (size ≤ 8) × (at + size ≤ length (now bytes)) ⌝ }
     ensures { λ _. ⌜ now (bytes .exit) ≡ sets (now (bytes .entry)) at (bytesOf big size value) ⌝ }

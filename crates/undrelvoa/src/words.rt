@@ -6,20 +6,18 @@ ghost use Prim.Native.Nat.{_≤_};
 ghost use lib.Dec.{eqb};
 ghost use lib.ListN.{length};
 ghost use lib.Seq.{sets};
-ghost use Rattle.undrelvoa.specs.Buffers.{reportLength, reportWords};
+ghost use Rattle.operation.specs.Numbers.{reportNumbers};
+ghost use Rattle.undrelvoa.specs.Buffers.{reportWords};
 ghost use Rattle.undrelvoa.specs.Answers.{placeLength};
 use integer::boolean::pick;
 use operation::report::Report;
-
-// Words of a report.
-pub(crate) const REPORT_WORDS: usize = 5;
 
 // Words of a place.
 pub(crate) const PLACE_WORDS: usize = 3;
 
 // Writes the words of a report.
 pub(crate) fn write_report(words: &mut [u64], report: Report)
-    requires { ⌜ reportLength ≤ length (now words) ⌝ }
+    requires { ⌜ reportNumbers ≤ length (now words) ⌝ }
     ensures { λ r. ⌜ now (words .exit) ≡ sets (now (words .entry)) 0 (reportWords report) ⌝ }
 {
     words[0] = report.ending;

@@ -72,7 +72,7 @@ value-passed opcode size size0 size1 a b room e =
         below0 = ltb-true a (256 ^ size0) (v .0);
         below1 = ltb-true b (256 ^ size1) (v .1);
         addressSize = noAddress;
-        agree = not-false (sizesAgree noAddress opcode size size0 size1) (t5 .0);
+        sizes = not-false (sizesAgree noAddress opcode size size0 size1) (t5 .0);
         divisor = nonzero (divides opcode) b (t6 .0);
       },
     )

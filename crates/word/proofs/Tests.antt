@@ -20,7 +20,7 @@ eqb-agree a b c d there back = by (eqb c d) refl
     by true e = eq-eqb a b (back (eqb-true c d e)) ∙ sym e
     by false e = ne-eqb a b (λ k. eqb-false c d e (there k)) ∙ sym e
 
-pub below-one : (x : ℕ) → eqb x 0 ≡ ltb x 1
+below-one : (x : ℕ) → eqb x 0 ≡ ltb x 1
 below-one zero = refl
 below-one (suc x) = eqb·suc-zero x ∙ sym (le-ltb (suc x) 1 (omega arith))
 

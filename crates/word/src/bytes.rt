@@ -54,6 +54,7 @@ pub fn scatter(big: bool, s: &mut [u8], at: usize, size: usize, v: u64)
     }
 }
 
+// Each byte from its weight.
 fn scatter_walk(big: bool, s: &mut [u8], at: usize, size: usize, v: u64)
     requires { ⌜ (size ≤ 8) × (at + size ≤ length (now s)) ⌝ }
     ensures { λ _. ⌜ now (s .exit) ≡ sets (now (s .entry)) at (bytesOf big size v) ⌝ }

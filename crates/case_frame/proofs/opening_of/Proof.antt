@@ -1,7 +1,7 @@
 -- `case_frame::opening_of` meets its contract.
 use borrow.Author.Tests.{eq-eqb, ne-eqb}
 use native.Mathlib.Omega.{arith}
-use Rattle.case_frame.specs.Frames.{budgetPlace, openingOf}
+use Rattle.case_frame.specs.Frames.{budgetColumn, openingOf}
 use Rattle.case_hexadecimal.specs.Digits.{numberDigits}
 use Rattle.case_hexadecimal.proofs.Laws.{number-fits}
 use borrow.Author.Needs.{needs}
@@ -17,7 +17,7 @@ cast-t12 c =
     let at-number2 = c .before .before .before .before in
     let start′ = at-number2 .before .before .before .before in
     let start = start′ in
-    record { fits = omega (arith, c .number6 .ensures, number-fits (start .args .s .now) budgetPlace numberDigits) }
+    record { fits = omega (arith, c .number6 .ensures, number-fits (start .args .s .now) budgetColumn numberDigits) }
 
 returns-2 : tie.Need-returns-2
 unfolding openingOf

@@ -6,10 +6,10 @@ use native.Mathlib.Omega.{arith}
 use borrow.Author.Needs.{needs}
 use lib.ListN.{length, getD}
 use Rattle.case_hexadecimal.specs.Digits.{byteDigits}
-use Rattle.case_printing.specs.Text.{joined, hexText, bytesText}
+use Rattle.case_printing.specs.Text.{concatenated, hexText, bytesText}
 use Rattle.case_printing.specs.Appended.{Appended}
-use Rattle.case_printing.proofs.Appending.{joined-none, joined-then}
-use Rattle.case_printing.proofs.Lengths.{length-hex, past-joined, past-bytes}
+use Rattle.case_printing.proofs.Appending.{concatenated-none, concatenated-then}
+use Rattle.case_printing.proofs.Lengths.{length-hex, past-concatenated, past-bytes}
 use Rattle.case_printing.proofs.text.put_bytes.Statement.{statement}
 use Rattle.case_printing.proofs.text.put_bytes.Tie as tie
 
@@ -17,7 +17,7 @@ abbrev digits : List ℕ → ℕ → List ℕ
 digits s i = hexText byteDigits (getD s i 0)
 
 abbrev Inv-loop : tie.InvT-loop
-Inv-loop out₀ at s p₀ i₀ out p i = (i ≤ length s) × Appended at out₀ (joined i (digits s)) p out
+Inv-loop out₀ at s p₀ i₀ out p i = (i ≤ length s) × Appended at out₀ (concatenated i (digits s)) p out
 
 abbrev μ-loop : tie.MeasureT-loop
 μ-loop out₀ at s p₀ i₀ out p i = length s - i
@@ -28,7 +28,7 @@ put-hex-requires c κs =
     let start = at-loop .before .before .before in
     let l = at-loop .loop in
     let s = start .args .s .now in
-    let so-far = past-joined byteDigits (l .i) (digits s) (λ k. omega (arith, length-hex byteDigits (getD s k 0))) (l .inv .1) in
+    let so-far = past-concatenated byteDigits (l .i) (digits s) (λ k. omega (arith, length-hex byteDigits (getD s k 0))) (l .inv .1) in
     omega (arith, so-far)
 
 loop-again : tie.Need-loop-again Inv-loop μ-loop
@@ -38,7 +38,7 @@ loop-again c =
     let start = at-loop .before .before .before in
     let l = at-loop .loop in
     let s = start .args .s .now in
-    (search needs, joined-then (l .i) (digits s) (l .inv .1) (rw (← (c .before .before .before .wide .ensures)) (c .before .before .put-hex .ensures .0)))
+    (search needs, concatenated-then (l .i) (digits s) (l .inv .1) (rw (← (c .before .before .before .wide .ensures)) (c .before .before .put-hex .ensures .0)))
 
 returns : tie.Need-returns Inv-loop μ-loop
 unfolding bytesText
@@ -54,7 +54,7 @@ put-bytes-spec =
     (tie.spec
     Inv-loop
     μ-loop
-    (λ c. (omega arith, joined-none _ _ _ (omega arith)))
+    (λ c. (omega arith, concatenated-none _ _ _ (omega arith)))
     (λ c. search needs)
     (λ c κs. search needs)
     put-hex-requires

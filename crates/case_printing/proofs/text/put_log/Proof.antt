@@ -5,10 +5,10 @@ use mathlib.Core.List.{List}
 use native.Mathlib.Omega.{arith}
 use borrow.Author.Needs.{needs}
 use lib.ListN.{length, getD}
-use Rattle.case_printing.specs.Text.{joined, wordLine, wordLineLength, logText}
+use Rattle.case_printing.specs.Text.{concatenated, wordLine, wordLineLength, logText}
 use Rattle.case_printing.specs.Appended.{Appended}
-use Rattle.case_printing.proofs.Appending.{joined-none, joined-then}
-use Rattle.case_printing.proofs.Lengths.{length-word, past-joined}
+use Rattle.case_printing.proofs.Appending.{concatenated-none, concatenated-then}
+use Rattle.case_printing.proofs.Lengths.{length-word, past-concatenated}
 use Rattle.case_printing.proofs.text.put_log.Statement.{statement}
 use Rattle.case_printing.proofs.text.put_log.Tie as tie
 
@@ -16,7 +16,7 @@ abbrev line : List ℕ → ℕ → List ℕ
 line words i = wordLine (getD words i 0)
 
 abbrev Inv-loop : tie.InvT-loop
-Inv-loop out₀ at words p₀ i₀ out p i = (i ≤ length words) × Appended at out₀ (joined i (line words)) p out
+Inv-loop out₀ at words p₀ i₀ out p i = (i ≤ length words) × Appended at out₀ (concatenated i (line words)) p out
 
 abbrev μ-loop : tie.MeasureT-loop
 μ-loop out₀ at words p₀ i₀ out p i = length words - i
@@ -27,7 +27,7 @@ put-word-requires c κs =
     let start = at-shared-slice-known .before .before in
     let l = c .before .before .before .loop in
     let words = start .args .words .now in
-    let so-far = past-joined wordLineLength (l .i) (line words) (λ k. omega (arith, length-word (getD words k 0))) (l .inv .1) in
+    let so-far = past-concatenated wordLineLength (l .i) (line words) (λ k. omega (arith, length-word (getD words k 0))) (l .inv .1) in
     omega (arith, so-far)
 
 returns : tie.Need-returns Inv-loop μ-loop
@@ -42,12 +42,12 @@ put-log-spec =
     (tie.spec
     Inv-loop
     μ-loop
-    (λ c. (omega arith, joined-none _ _ _ (omega arith)))
+    (λ c. (omega arith, concatenated-none _ _ _ (omega arith)))
     (λ c. search needs)
     (λ c. search needs)
     put-word-requires
     (λ c. search needs)
     (λ c. search needs)
-    (λ c. search (needs, joined-then))
+    (λ c. search (needs, concatenated-then))
     (λ c. search needs)
     returns)

@@ -5,10 +5,10 @@ use mathlib.Core.List.{List}
 use native.Mathlib.Omega.{arith}
 use borrow.Author.Needs.{needs}
 use lib.ListN.{length}
-use Rattle.case_printing.specs.Text.{joined, dumpLine, dumpLength, bytesPerLine, lineCount, lineBytes, spaceLines}
+use Rattle.case_printing.specs.Text.{concatenated, dumpLine, dumpLength, bytesPerLine, lineCount, lineBytes, spaceLines}
 use Rattle.case_printing.specs.Appended.{Appended}
-use Rattle.case_printing.proofs.Appending.{joined-none, joined-then}
-use Rattle.case_printing.proofs.Lengths.{length-line-bytes, length-line-most, past-joined, past-space}
+use Rattle.case_printing.proofs.Appending.{concatenated-none, concatenated-then}
+use Rattle.case_printing.proofs.Lengths.{length-line-bytes, length-line-most, past-concatenated, past-space}
 use Rattle.case_printing.proofs.Lines.{line-part}
 use Rattle.case_printing.proofs.text.put_space.Statement.{statement}
 use Rattle.case_printing.proofs.text.put_space.Tie as tie
@@ -18,7 +18,7 @@ line kind space s k = dumpLine kind space (bytesPerLine * k) (lineBytes s k)
 
 abbrev Inv-loop : tie.InvT-loop
 Inv-loop out₀ at kind space s lines p₀ k₀ out p k =
-    (k ≤ lines) × (lines ≡ lineCount (length s)) × Appended at out₀ (joined k (line kind space s)) p out
+    (k ≤ lines) × (lines ≡ lineCount (length s)) × Appended at out₀ (concatenated k (line kind space s)) p out
 
 abbrev μ-loop : tie.MeasureT-loop
 μ-loop out₀ at kind space s lines p₀ k₀ out p k = lines - k
@@ -31,7 +31,7 @@ put-line-requires c κs =
     let s = a .s .now in
     let l = at-loop .loop in
     let part = ap length (line-part s (l .k) (c .before .before .least .result) (c .before .before .least .ensures)) in
-    let so-far = past-joined (dumpLength bytesPerLine) (l .k) (line (a .kind) (a .space) s) (length-line-most (a .kind) (a .space) s) (l .inv .2) in
+    let so-far = past-concatenated (dumpLength bytesPerLine) (l .k) (line (a .kind) (a .space) s) (length-line-most (a .kind) (a .space) s) (l .inv .2) in
     omega (arith, part, length-line-bytes s (l .k), so-far, start .pre .1)
 
 loop-again : tie.Need-loop-again Inv-loop μ-loop
@@ -46,7 +46,7 @@ loop-again c =
     let least = at-least .least in (
       search needs,
       refl,
-      joined-then (l .k) (line (a .kind) (a .space) s) (l .inv .2) (rw (← (line-part s (l .k) (least .result) (least .ensures))) (c .before .before .put-line .ensures)),
+      concatenated-then (l .k) (line (a .kind) (a .space) s) (l .inv .2) (rw (← (line-part s (l .k) (least .result) (least .ensures))) (c .before .before .put-line .ensures)),
     )
 
 returns : tie.Need-returns Inv-loop μ-loop
@@ -65,7 +65,7 @@ put-space-spec =
     μ-loop
     (λ c. search needs)
     (λ c. search needs)
-    (λ c. (omega arith, refl, joined-none _ _ _ (omega arith)))
+    (λ c. (omega arith, refl, concatenated-none _ _ _ (omega arith)))
     (λ c. search needs)
     (λ c. search needs)
     (λ c κs. search needs)

@@ -1,18 +1,18 @@
 -- `case_reader::line::continue_with` meets its contract.
 use borrow.Author.Needs.{needs}
-use Rattle.case_reader.specs.Case.{extended}
+use Rattle.case_reader.specs.Case.{lineAdded}
 use Rattle.case_reader.proofs.Feeding.{fed-bad, placed, stores, fed-outside, fed-memory, fed-labels, stores-words, fed-full, fed-operation}
 use Rattle.case_reader.proofs.line.continue_with.Statement.{statement}
 use Rattle.case_reader.proofs.line.continue_with.Tie as tie
 
 returns-4 : tie.Need-returns-4
-unfolding extended
+unfolding lineAdded
 returns-4 c =
     let start = c .before .before .before .before in
     fed-bad _ _ (c .before .before .frame-of .ensures) _ _ _ _ (start .before .before .before .pre) (rw (c .enum-told .given .1))
 
 returns-7 : tie.Need-returns-7
-unfolding extended
+unfolding lineAdded
 returns-7 c =
     let start = c .before .before .before .before in
     fed-bad _ _ (c .before .before .frame-of .ensures) _ _ _ _ (start .before .before .before .pre) (rw (c .enum-told3 .given .1))
@@ -26,8 +26,8 @@ place-of-requires c κs =
     placed (start .args .number) (start .args .s .now) (at-frame .frame-of .ensures) _ _ _ _ (start .pre) _ _ _ _ (at-known .of-labels .given .1)
     (c .before .in-space .ensures) (c .if1 .left)
 
-put-bytes-requires : tie.Need-put-bytes-requires
-put-bytes-requires c κs =
+store-bytes-requires : tie.Need-store-bytes-requires
+store-bytes-requires c κs =
     let at-test = c .before .before .before in
     let at-known = at-test .before .before .before .before in
     let at-frame = at-known .before .before in
@@ -39,8 +39,8 @@ put-bytes-requires c κs =
 returns-2 : tie.Need-returns-2
 returns-2 c = search (needs, fed-labels)
 
-put-bytes-requires-2 : tie.Need-put-bytes-requires-2
-put-bytes-requires-2 c κs =
+store-bytes-requires-2 : tie.Need-store-bytes-requires-2
+store-bytes-requires-2 c κs =
     let at-test = c .before .before .before in
     let at-known = at-test .before .before .before .before in
     let at-frame = at-known .before .before in
@@ -49,8 +49,8 @@ put-bytes-requires-2 c κs =
     stores (start .args .number) (start .args .s .now) (at-frame .frame-of .ensures) _ _ _ _ (start .pre) _ _ _ _ (at-known .of-labels .given .1)
     (at-test .before .in-space .ensures) (at-test .if1 .left) (c .before .before .place-of .ensures) (start .pre .memoryRoom)
 
-put-words-requires : tie.Need-put-words-requires
-put-words-requires c κs =
+store-words-requires : tie.Need-store-words-requires
+store-words-requires c κs =
     let at-told = c .before .before .before .before in
     let at-frame = at-told .before .before in
     let at-slices = at-frame .before .before .before .before in
@@ -74,14 +74,14 @@ continue-with-spec =
     (λ c κs. search needs)
     returns
     place-of-requires
-    put-bytes-requires
+    store-bytes-requires
     (λ c. search needs)
     returns-2
-    put-bytes-requires-2
+    store-bytes-requires-2
     (λ c. search needs)
     (λ c. search (needs, fed-full))
     (λ c. search needs)
-    put-words-requires
+    store-words-requires
     (λ c. search needs)
     (λ c. search needs)
     returns-4

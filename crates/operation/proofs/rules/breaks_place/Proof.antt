@@ -7,7 +7,7 @@ use Rattle.operation.proofs.rules.breaks_place.Statement.{statement}
 use Rattle.operation.proofs.rules.breaks_place.Tie as tie
 
 returns : tie.Need-returns
-returns c = c .breaks-place0 .ensures ∙ rw (c .before .if1 .taken) refl
+returns c = c .breaks-input0-place .ensures ∙ rw (c .before .if1 .taken) refl
 
 returns-2 : tie.Need-returns-2
 unfolding breaksPlace

@@ -1,16 +1,16 @@
--- `case_frame::put_words` meets its contract. The loop's invariant: the words passed are stored, and nothing else (`Storing`).
+-- `case_frame::store_words` meets its contract. The loop's invariant: the words passed are stored, and nothing else (`Storing`).
 use native.Mathlib.Omega.{arith}
 use borrow.Author.Needs.{needs}
 use Prim.Native.Nat.{_+_, _*_, _-_}
 use Rattle.word.proofs.Stores.{Storing, storing-none, storing-more, storing-all, storing-length}
 use Rattle.operation.specs.Layout.{wordsPerOperation}
 use Rattle.case_hexadecimal.specs.Digits.{wordDigits, numberAt}
-use Rattle.case_frame.specs.Frames.{wordsPlace, wordsOn}
-use Rattle.case_frame.proofs.put_words.Statement.{statement}
-use Rattle.case_frame.proofs.put_words.Tie as tie
+use Rattle.case_frame.specs.Frames.{wordsColumn, wordsOn}
+use Rattle.case_frame.proofs.store_words.Statement.{statement}
+use Rattle.case_frame.proofs.store_words.Tie as tie
 
 abbrev Inv-loop : tie.InvT-loop
-Inv-loop s words₀ place i₀ words i = Storing (λ k. numberAt s (wordsPlace + wordDigits * k) wordDigits) wordsPerOperation place words₀ words i
+Inv-loop s words₀ place i₀ words i = Storing (λ k. numberAt s (wordsColumn + wordDigits * k) wordDigits) wordsPerOperation place words₀ words i
 
 abbrev μ-loop : tie.MeasureT-loop
 μ-loop s words₀ place i₀ words i = wordsPerOperation - i
@@ -19,8 +19,8 @@ returns : tie.Need-returns Inv-loop μ-loop
 unfolding wordsOn
 returns c = storing-all (c .before .loop .inv) (c .loop-test .left)
 
-pub put-words-spec : {M : Type 1} → statement M
-put-words-spec =
+pub store-words-spec : {M : Type 1} → statement M
+store-words-spec =
     tie.close
     (tie.spec
     Inv-loop

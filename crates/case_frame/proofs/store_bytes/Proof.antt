@@ -1,12 +1,12 @@
--- `case_frame::put_bytes` meets its contract. The loop's invariant: the bytes passed are stored, and nothing else (`Storing`).
+-- `case_frame::store_bytes` meets its contract. The loop's invariant: the bytes passed are stored, and nothing else (`Storing`).
 use native.Mathlib.Omega.{arith}
 use Prim.Native.Nat.{_-_}
 use Rattle.word.proofs.Stores.{Storing, storing-none, storing-more, storing-all, storing-length}
 use Rattle.case_hexadecimal.specs.Digits.{byteDigits, numberAt}
 use Rattle.case_hexadecimal.proofs.Laws.{number-fits}
 use Rattle.case_frame.specs.Frames.{bytesLength, bytesOn}
-use Rattle.case_frame.proofs.put_bytes.Statement.{statement}
-use Rattle.case_frame.proofs.put_bytes.Tie as tie
+use Rattle.case_frame.proofs.store_bytes.Statement.{statement}
+use Rattle.case_frame.proofs.store_bytes.Tie as tie
 
 abbrev Inv-loop : tie.InvT-loop
 Inv-loop s n memory₀ place i₀ memory i = Storing (λ k. numberAt s (bytesLength k) byteDigits) n place memory₀ memory i
@@ -24,8 +24,8 @@ returns : tie.Need-returns Inv-loop μ-loop
 unfolding bytesOn
 returns c = storing-all (c .before .loop .inv) (c .loop-test .left)
 
-pub put-bytes-spec : {M : Type 1} → statement M
-put-bytes-spec =
+pub store-bytes-spec : {M : Type 1} → statement M
+store-bytes-spec =
     tie.close
     (tie.spec
     Inv-loop

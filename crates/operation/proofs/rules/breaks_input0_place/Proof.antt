@@ -1,9 +1,9 @@
--- `operation::rules::breaks_place0` meets its contract.
+-- `operation::rules::breaks_input0_place` meets its contract.
 use mathlib.Core.Path.{refl, sym, _∙_}
 use borrow.Author.Needs.{needs}
 use Rattle.operation.specs.Rules.{breaksPlace}
-use Rattle.operation.proofs.rules.breaks_place0.Statement.{statement}
-use Rattle.operation.proofs.rules.breaks_place0.Tie as tie
+use Rattle.operation.proofs.rules.breaks_input0_place.Statement.{statement}
+use Rattle.operation.proofs.rules.breaks_input0_place.Tie as tie
 
 returns : tie.Need-returns
 unfolding breaksPlace
@@ -16,8 +16,8 @@ returns-2 c =
     let past-access = at-destination .before .before in
     rw (sym (past-access .before .accesses .ensures) ∙ past-access .if1 .left, c .pick-test .ensures, at-destination .before .branches .ensures, at-destination .is-destination .ensures) refl
 
-pub breaks-place0-spec : {M : Type 1} → statement M
-breaks-place0-spec =
+pub breaks-input0-place-spec : {M : Type 1} → statement M
+breaks-input0-place-spec =
     tie.close
     (tie.spec
     (λ c κs. search needs)
