@@ -9,7 +9,7 @@
  *   10 SETTING  a byte order that is neither 0 nor 1
  *   11 LENGTH   a lent buffer that is too short to hold the result
  *   21 HEAD     an opcode out of range
- *   22 SHAPE    a size that is not 1 to 8, or an operand present or absent against the manual
+ *   22 SHAPE    a size that is not 1 to 8, an operand where the opcode has none, or none where it has one
  *   24 RANGE    bytes beyond the end of the buffer, or a value that is not below 256^size
  *   25 SIZE     sizes that the operation does not allow together
  *   33 ZERO     a divisor of 0
@@ -145,7 +145,7 @@ uint64_t undrelvoa_gather(uint64_t order, const uint8_t *bytes, size_t bytes_len
 uint64_t undrelvoa_scatter(uint64_t order, uint8_t *bytes, size_t bytes_len, uint64_t offset,
                            uint64_t size, uint64_t value);
 
-/* The verdict on a list of operations: paper 01's judge.
+/* The verdict on a list of operations: the papers' judge.
  *
  *   order         byte order: 0 little, 1 big
  *   address_size  bytes of an address, 1 to 8
@@ -169,7 +169,7 @@ uint64_t undrelvoa_validate(uint64_t order, uint64_t address_size, uint64_t uniq
                             uint64_t register_len, uint64_t ram_len, const uint64_t *list,
                             size_t list_len, uint64_t *report, size_t report_len);
 
-/* A run of a list of operations, without labels: paper 01's plain run.
+/* A run of a list of operations, without labels: the papers' plain run.
  *
  *   order, address_size, list, list_len   as for undrelvoa_validate
  *   start        the index of the first operation to execute, at most the number of operations
@@ -199,7 +199,7 @@ uint64_t undrelvoa_step(uint64_t order, uint64_t address_size, const uint64_t *l
                         size_t register_len, uint8_t *ram, size_t ram_len, uint64_t *log,
                         size_t log_len, uint64_t *report, size_t report_len);
 
-/* A run with a label for each byte of each space: paper 01's labelled run.
+/* A run with a label for each byte of each space: the papers' labelled run.
  *
  *   unique_labels, register_labels, ram_labels   one byte for each byte of each space, 0 public, 1
  *                secret, read and written

@@ -14,7 +14,7 @@ static void expect(const char *what, uint64_t answer, uint64_t wanted) {
     printf("%s: %llu, not %llu\n", what, (unsigned long long)answer, (unsigned long long)wanted);
 }
 
-/* Paper 01, marked results: f9 by 02 signed = fd, INT_SREM ff; 11223344 without its low byte in 2 bytes is 2233. */
+/* Known results: f9 by 02 signed = fd, INT_SREM ff; 11223344 without its low byte in 2 bytes is 2233. */
 static void values(void) {
     uint64_t out[2] = {7, 9};
     expect("INT_SDIV", undrelvoa_value(UNDRELVOA_INT_SDIV, 1, 1, 1, 0xf9, 0x02, out, 2), 0);
@@ -28,7 +28,7 @@ static void values(void) {
     expect("the word after the result", out[1], 9);
 }
 
-/* Paper 01, marked results: 123456 is 56 34 12 little, 12 34 56 big. */
+/* Known results: 123456 is 56 34 12 little, 12 34 56 big. */
 static void bytes(void) {
     uint8_t memory[4] = {0, 0, 0, 0xaa};
     uint64_t out[1] = {0};
@@ -41,7 +41,7 @@ static void bytes(void) {
     expect("beyond the end", undrelvoa_gather(0, memory, 4, 2, 3, out, 1), 24);
 }
 
-/* Paper 01, marked results: register length 16, size 4: offset 12 passes, 13 is RANGE. The operation is a COPY to unique. */
+/* Known results: register length 16, size 4: offset 12 passes, 13 is RANGE. The operation is a COPY to unique. */
 static void verdicts(void) {
     uint64_t list[5] = {0};
     uint64_t report[6] = {7, 7, 7, 7, 7, 9};
@@ -57,7 +57,7 @@ static void verdicts(void) {
     expect("short report", undrelvoa_validate(0, 8, 16, 16, 16, list, 5, report, 4), 11);
 }
 
-/* Paper 01, marked results: bytes 01 02 03 04, COPY of 2 bytes from 0 to 1: 01 01 02 04. Then a BRANCH to ram 7, an exit. */
+/* Known results: bytes 01 02 03 04, COPY of 2 bytes from 0 to 1: 01 01 02 04. Then a BRANCH to ram 7, an exit. */
 static void runs(void) {
     uint64_t list[10] = {0x00323201, 1, 0, 0, 0, 0x00410004, 0, 7, 0, 0};
     uint8_t unique[1] = {0}, registers[4] = {1, 2, 3, 4}, ram[8] = {0};

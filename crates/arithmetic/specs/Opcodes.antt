@@ -1,5 +1,5 @@
--- The opcodes of paper 01, a row for each: its outputs and inputs, by the manual's parameter tables, and the sentence of rule 25 that its
--- sizes obey. CALL, CALLIND and RETURN take only input0, as raw p-code does.
+-- The opcodes, a row for each: its outputs and inputs, and the sentence of rule 25 that its sizes obey. CALL, CALLIND and RETURN take
+-- only input0, as raw p-code does.
 use Prim.Native.Nat.{ℕ}
 use mathlib.Core.Bool.{Bool, false, cond, _||_}
 use mathlib.Core.List.{List, [], _∷_}

@@ -9,7 +9,7 @@ use Rattle.arithmetic.specs.Opcodes.{Sizes, kept, equal, compared, exten
 unfoldable pub divides : (opcode : ℕ) → Bool
 divides opcode = leb 35 opcode && leb opcode 38
 
--- Paper 01's rule 25 SIZE, sentence by sentence; size is the output's, size0 and size1 are the inputs', A is the address size.
+-- Rule 25 SIZE, a sentence for each kind of opcode; size is the output's, size0 and size1 are the inputs', A is the address size.
 unfoldable pub agree : Sizes → (addressSize size size0 size1 : ℕ) → Bool
 -- COPY, INT_2COMP, INT_NEGATE and shifts: input0 = output.
 agree kept A size size0 size1 = eqb size0 size

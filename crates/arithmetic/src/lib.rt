@@ -1,4 +1,4 @@
-// The values of the integer operations of paper 01, by opcode.
+// The values of the integer operations, by opcode.
 ghost use mathlib.Core.Path.{_≡_};
 ghost use Rattle.arithmetic.specs.Operands.{Operands};
 ghost use Rattle.arithmetic.specs.Result.{lookup, integerResults, result};

@@ -49,7 +49,7 @@ pub fn is_division(opcode: u64) -> bool
     both(35 <= opcode, opcode <= 38)
 }
 
-// Paper 01's rule 25 SIZE, a line for each of its sentences, the last one first. The two that most operations fall under are left at
+// Rule 25 SIZE, a line for each of its sentences, the last one first. The two that most operations fall under are left at
 // once; the others are tests without a branch.
 pub fn sizes_agree(address_size: u64, opcode: u64, size: u64, size0: u64, size1: u64) -> bool
     ensures { λ r. ⌜ r ≡ sizesAgree «address_size» opcode size size0 size1 ⌝ }

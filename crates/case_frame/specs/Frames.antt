@@ -1,4 +1,4 @@
--- Paper 01, 'The case program': the frame that a line stands for. The line is without its newline.
+-- The frame that a line of a case stands for. The line is without its newline.
 use Prim.Native.Nat.{ℕ, _+_, _-_, _*_, _/_, _%_, max}
 use mathlib.Core.Bool.{Bool, true, false, cond, _&&_}
 use mathlib.Core.List.{List}

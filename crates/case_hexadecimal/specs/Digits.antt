@@ -1,4 +1,4 @@
--- Paper 01, 'The case program': lowercase hexadecimal, numbers from their highest digit.
+-- The numbers of a case: lowercase hexadecimal digits, the highest first.
 use Prim.Native.Nat.{ℕ, zero, suc, _+_, _-_, _*_, _%_}
 use mathlib.Core.Bool.{Bool, true, false, cond}
 use mathlib.Core.List.{List, [], _∷_}

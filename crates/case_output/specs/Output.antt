@@ -1,4 +1,4 @@
--- Paper 01, 'The case program': what a text prints.
+-- From a text to what is printed for it.
 use Prim.Native.Nat.{ℕ}
 use mathlib.Core.List.{List, [], _∷_}
 use Rattle.case_printing.specs.Text.{reportText}

@@ -1,4 +1,4 @@
--- Paper 01, 'The case program': what is printed of a run.
+-- What the case program prints of a run.
 use Prim.Native.Nat.{ℕ}
 use mathlib.Core.List.{List, _++_}
 use lib.ListN.{take}

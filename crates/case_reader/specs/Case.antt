@@ -1,4 +1,4 @@
--- Paper 01, 'The case program': a case, and what each line does to it.
+-- A case, and what each line of its text does to it.
 use Prim.Native.Nat.{ℕ, _+_}
 use mathlib.Core.Bool.{Bool, true, false, cond, _&&_}
 use mathlib.Core.List.{List, [], _++_}

@@ -1,4 +1,4 @@
--- Paper 01, 'The case program': the limits of a case, and the rooms that follow from them.
+-- The limits of a case, and the rooms that follow from them.
 use Prim.Native.Nat.{ℕ, _+_, _*_}
 use Rattle.operation.specs.Layout.{wordsPerOperation}
 use Rattle.case_frame.specs.Frames.{longestFrame}

@@ -1,4 +1,4 @@
--- Paper 01, 'The case program': one frame a line, newline after each.
+-- The lines of a text: a frame on each, and a newline after it.
 use Prim.Native.Nat.{ℕ, _+_, _-_, _^_}
 use mathlib.Core.Bool.{cond}
 use mathlib.Core.List.{List, [], _∷_, _++_}

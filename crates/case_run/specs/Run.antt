@@ -1,4 +1,4 @@
--- Paper 01, 'The case program': the run of a case.
+-- The run of a case.
 use lib.ListN.{replicate}
 use Rattle.machine.specs.Calls.{Outcome, labelledRun}
 use Rattle.case_reader.specs.Case.{Case}

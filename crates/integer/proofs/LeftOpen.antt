@@ -1,4 +1,4 @@
--- Paper 01's lines on what the manual leaves open, proved.
+-- The statements of LeftOpen hold.
 use Prim.Native.Nat.{ℕ, zero, suc, _+_, _*_, _/_, _%_, _^_, _-_, _≤_, _<_}
 use mathlib.Core.Bool.{Bool, true, false, cond, xor}
 use mathlib.Core.Path.{_≡_, refl, ap, _∙_}

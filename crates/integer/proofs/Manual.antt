@@ -1,4 +1,4 @@
--- The manual's sentences hold.
+-- The laws of Manual hold.
 use mathlib.Core.Path.{_≡_, refl, sym, ap, _∙_}
 use mathlib.Core.Bool.{Bool, true, false, cond}
 use Prim.Native.Nat.{ℕ, _+_, _-_, _*_, _/_, _%_, _^_, _≤_, _<_}
@@ -83,7 +83,7 @@ unsigned-borrow a b = by (ltb a b) refl
     by true e = rw (sub-neg a b (ltb-true _ _ e))
     by false e = rw (sub-pos a b (ltb-false _ _ e))
 
--- ---- the sentences
+-- ---- the laws
 
 pub manual : Manual
 unfolding intAdd intSub int2comp intLeft intRight intSright intMult intDiv intRem intSdiv intSrem wrap

@@ -28,7 +28,7 @@ unfoldable pub withSign : Bool → ℕ → ℤ
 withSign false n = pos n
 withSign true n = negℤ (pos n)
 
--- Paper 01: signed division truncates towards zero.
+-- Signed division truncates towards zero.
 unfoldable pub quotient : ℤ → ℤ → ℤ
 quotient p q = withSign (xor (negative p) (negative q)) (natAbs p / natAbs q)
 

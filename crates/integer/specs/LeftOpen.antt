@@ -1,4 +1,4 @@
--- Paper 01, 'What the manual leaves open': its lines on values, as statements about the definitions.
+-- Values at the borders, which p-code by itself leaves open: what each is here, as statements about the definitions.
 use Prim.Native.Nat.{ℕ, _+_, _*_, _/_, _^_, _-_, _≤_, _<_}
 use mathlib.Core.Bool.{true, false}
 use mathlib.Core.Path.{_≡_}
@@ -6,7 +6,7 @@ use lib.IntN.{ℤ, natAbs, _+ℤ_, _*ℤ_}
 use Rattle.integer.specs.Integers.{signed, negative, quotient, remainder}
 use Rattle.integer.specs.Operations.{subpiece, intLeft, intRight, intSright, intSdiv, intSrem, boolNegate, boolXor, boolAnd, boolOr}
 
--- A field for each of these lines.
+-- A field for each of them.
 pub record LeftOpen : Type 0 where
   -- A shift by the width or more gives 0;
   pub shift-by-width : (size a b : ℕ) → 8 * size ≤ b → (intLeft size a b ≡ 0) × (intRight size a b ≡ 0)

@@ -1,6 +1,5 @@
--- The value of each integer operation, in the order of paper 01's opcodes. `size` is the output's size in bytes, `size0` and
--- `size1` the inputs'; a and b are the values of input0 and input1. The P-Code manual decides each, and paper 01's 'What the
--- manual leaves open' where a line says so.
+-- The value of each integer operation, in the order of the opcodes. `size` is the output's size in bytes, `size0` and `size1` the
+-- inputs'; a and b are the values of input0 and input1.
 use Prim.Native.Nat.{ℕ, _+_, _*_, _/_, _%_, _^_, _-_, min, max}
 use mathlib.Core.Bool.{Bool, true, false, cond, not, _&&_, _||_, xor}
 use lib.Dec.{eqb, ltb, leb}
@@ -9,7 +8,7 @@ use lib.Signed.{ltZ, leZ, shrZ}
 use Rattle.word.specs.Sum.{sum, digit}
 use Rattle.integer.specs.Integers.{signed, wrap, negative, overflows, quotient, remainder}
 
--- Paper 01: results are 0 or 1.
+-- A truth value as a result: 0 or 1.
 unfoldable pub flag : Bool → ℕ
 flag false = 0
 flag true = 1
@@ -26,7 +25,7 @@ fromBits size f = sum (8 * size) (λ k. f k * 2 ^ k)
 unfoldable pub piece : (size1 a b : ℕ) → ℕ
 piece size1 a b = a * 256 ^ size1 + b
 
--- 11 SUBPIECE. Paper 01: drops input1 low bytes; missing high bytes are 0.
+-- 11 SUBPIECE: b low bytes are dropped; missing high bytes are 0.
 unfoldable pub subpiece : (size a b : ℕ) → ℕ
 subpiece size a b = a / 256 ^ b % 256 ^ size
 
@@ -106,7 +105,7 @@ intAnd size a b = fromBits size (λ k. min (bit a k) (bit b k))
 unfoldable pub intOr : (size a b : ℕ) → ℕ
 intOr size a b = fromBits size (λ k. max (bit a k) (bit b k))
 
--- 31 INT_LEFT, by b bits. Paper 01: a shift by the width or more gives 0.
+-- 31 INT_LEFT, by b bits; by the width or more it gives 0.
 unfoldable pub intLeft : (size a b : ℕ) → ℕ
 intLeft size a b = cond (ltb b (8 * size)) (a * 2 ^ b % 256 ^ size) 0
 
@@ -114,8 +113,8 @@ intLeft size a b = cond (ltb b (8 * size)) (a * 2 ^ b % 256 ^ size) 0
 unfoldable pub intRight : (size a b : ℕ) → ℕ
 intRight size a b = cond (ltb b (8 * size)) (a / 2 ^ b) 0
 
--- 33 INT_SRIGHT, by b bits. Paper 01: a shift by the width or more gives all ones for a negative input0, else 0. `shrZ z m` is z / m rounded
--- down: the bits of z moved down, copies of the sign bit in the vacated places.
+-- 33 INT_SRIGHT, by b bits; by the width or more it gives all ones for a negative input0, else 0. `shrZ z m` is z / m rounded down: the
+-- bits of z moved down, copies of the sign bit in the vacated places.
 unfoldable pub intSright : (size a b : ℕ) → ℕ
 intSright size a b =
     cond (ltb b (8 * size)) (wrap size (shrZ (signed size a) (2 ^ b))) (cond (negative (signed size a)) (256 ^ size - 1) 0)
@@ -140,7 +139,7 @@ intSdiv size a b = wrap size (quotient (signed size a) (signed size b))
 unfoldable pub intSrem : (size a b : ℕ) → ℕ
 intSrem size a b = wrap size (remainder (signed size a) (signed size b))
 
--- Paper 01: in BOOL operations any non-zero byte is true.
+-- In BOOL operations any non-zero byte is true.
 unfoldable pub truth : (a : ℕ) → Bool
 truth a = not (eqb a 0)
 

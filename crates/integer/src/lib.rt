@@ -1,4 +1,4 @@
-// The values of the integer operations of paper 01, one by one.
+// The values of the integer operations, one by one.
 pub mod boolean;
 pub mod signed;
 pub mod unsigned;

@@ -9,14 +9,14 @@ use operation::layout::Lengths;
 use operation::layout::Settings;
 use operation::report::Report;
 
-// The verdict on a list of operations, for spaces of these lengths: paper 01's judge.
+// The verdict on a list of operations, for spaces of these lengths: the papers' judge.
 pub fn validate(settings: Settings, lengths: Lengths, list: &[u64]) -> Report
     ensures { λ r. ⌜ r ≡ verdict settings lengths (now (list .entry)) ⌝ }
 {
     validation::verdict(settings, lengths, list)
 }
 
-// A run of at most `budget` operations, from operation `start`, without labels: paper 01's plain run.
+// A run of at most `budget` operations, from operation `start`, without labels: the papers' plain run.
 pub fn run(
     settings: Settings,
     list: &[u64],
@@ -51,7 +51,7 @@ pub fn step(
     runs::run(settings, list, start, 1, unique, register, ram, log)
 }
 
-// A run with a label for each byte of each space, 0 public or 1 secret: paper 01's labelled run.
+// A run with a label for each byte of each space, 0 public or 1 secret: the papers' labelled run.
 pub fn labelled_run(
     settings: Settings,
     list: &[u64],

@@ -1,4 +1,4 @@
--- The plain and the labelled run of paper 01, with all refusals before anything runs.
+-- The papers' plain and labelled runs, with all refusals before anything runs.
 use Prim.Native.Nat.{ℕ}
 use mathlib.Core.Bool.{Bool, true, cond, not, _&&_}
 use mathlib.Core.List.{List, [], _∷_, _++_}

@@ -1,5 +1,5 @@
--- The exact conditions: one operation of a well-formed list told a second time, over opcode numbers, varnodes, labels and values, as
--- the sentences of paper 01 have it. The definitions of Effect and Run must meet it; a wrong entry in one of their tables does not. Both
+-- The exact conditions: one operation of a well-formed list told a second time, over opcode numbers, varnodes, labels and values, a
+-- sentence for each definition. The definitions of Effect and Run must meet it; a wrong entry in one of their tables does not. Both
 -- tellings share memory, arithmetic and the bytes at a pointer (`pointee`). The code is held to these: what it plans, looks at and
 -- marks is told in their words.
 use Prim.Native.Nat.{ℕ, suc, _+_, _*_, _-_, _%_, _^_, _<_}

@@ -56,7 +56,7 @@ kindOf opcode =
     (cond (eqb opcode 19) copy
     (cond (divides opcode) divide compute)))))))))
 
--- ---- what must be public: 'LEAK: a secret byte in ..'
+-- ---- what must be public, since a secret byte there is LEAK
 
 -- The varnodes that must be public.
 unfoldable pub sinks : Kind → Operation → List Varnode

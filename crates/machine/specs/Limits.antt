@@ -1,4 +1,4 @@
--- What paper 01 says of stops, counts and log words, of the whole plain and the whole labelled run.
+-- Stops, counts and log words, of the whole plain and the whole labelled run.
 use Prim.Native.Nat.{ℕ, zero, suc, _-_, _≤_}
 use mathlib.Core.List.{List}
 use mathlib.Core.Path.{_≡_}

@@ -1,4 +1,4 @@
--- Paper 01, 'Marked results', those marked P: each as the effect of one operation, given by its words, on stated bytes of the
+-- The papers' marked results, which are known answers: each as the effect of one operation, given by its words, on stated bytes of the
 -- register space, in both byte orders; the branch has no bytes.
 use Prim.Native.Nat.{ℕ}
 use mathlib.Core.List.{List, [], _∷_, _++_}
@@ -38,7 +38,7 @@ Branches order =
     plainRun (record { order = order; «address_size» = 8 }) nineBranches 5 1 [] (spaces [] [] [])
     ≡ plainOutcome (record { ending = 2; index = 8; executed = 1; logged = 0; value = 0 }) (spaces [] [] []) []
 
--- All results marked P.
+-- All of them.
 pub record Marked : Type 0 where
   -- INT_ADD size 1: ff + 01 = 00; INT_CARRY 1, INT_SCARRY 0.
   pub add-wraps : InBoth (words 0x31313115 2 0 1) (0xff ∷ 0x01 ∷ 0xaa ∷ []) (0xff ∷ 0x01 ∷ 0x00 ∷ [])

@@ -1,4 +1,4 @@
--- Paper 01, 'Spaces, settings, varnodes': memory, and what it holds at a varnode.
+-- Memory, and what it holds at a varnode.
 use Prim.Native.Nat.{ℕ}
 use mathlib.Core.Bool.{Bool, false, cond}
 use mathlib.Core.List.{List, []}

@@ -1,4 +1,4 @@
--- Paper 01: the refusals come in the order 10, 11, 12, 21 to 26, 27. Each is answered where its own condition holds and none before
+-- The refusals come in the order 10, 11, 12, 21 to 26, 27. Each is answered where its own condition holds and none before
 -- it does, whatever would come after it.
 use Prim.Native.Nat.{ℕ, _≤_, _<_}
 use mathlib.Core.Bool.{Bool, true, false, _&&_}

@@ -1,4 +1,4 @@
--- Paper 01: a run stopped by BUDGET, resumed at its index with the memory and labels it left, the unused part of the log and a further
+-- A run stopped by BUDGET, resumed at its index with the memory and labels it left, the unused part of the log and a further
 -- budget, ends as one run with the two budgets added, operations and log words summed.
 use Prim.Native.Nat.{ℕ, _+_}
 use mathlib.Core.List.{List, _++_}

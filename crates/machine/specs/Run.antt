@@ -1,4 +1,4 @@
--- Paper 01, 'Report, log and endings': one operation, and the run of a list with a budget.
+-- One operation, with its log word and its ending, and the run of a list with a budget.
 use Prim.Native.Nat.{ℕ, zero, suc, _+_, _*_, _-_, _^_}
 use mathlib.Core.Bool.{Bool, cond}
 use mathlib.Core.List.{List, [], _∷_, _++_}

@@ -10,7 +10,7 @@ use Rattle.operation.specs.Layout.{describedBy}
 use Rattle.operation.specs.Rules.{describesVarnode, breaksShape}
 use Rattle.operation.specs.Decoding.{decoded, ruleOf}
 
--- what decoding answers has paper 01's number
+-- what decoding answers, and its number
 pub numbered : (wanted : Bool) (d o : ℕ) {r : Decoded} → r ≡ decoded wanted d o
     → (r ≡ decoded wanted d o) × (ruleOf r ≡ cond (breaksShape wanted d o) 22 0)
 unfolding decoded ruleOf

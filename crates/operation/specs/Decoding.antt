@@ -8,7 +8,7 @@ use Rattle.operation.specs.Layout.{opcodeAt, descriptorAt, offsetAt, des
 use Rattle.arithmetic.specs.Opcodes.{hasPlace}
 use Rattle.operation.specs.Rules.{breaksShape}
 
--- The varnode of a descriptor and its offset; `wanted`: the manual has one at this place.
+-- The varnode of a descriptor and its offset; `wanted`: the opcode has one at this place.
 unfoldable pub decoded : (wanted : Bool) (descriptor offset : ℕ) → Decoded
 decoded wanted descriptor offset = cond (breaksShape wanted descriptor offset) Fault (Accepted (describedBy descriptor offset))
 
@@ -16,7 +16,7 @@ decoded wanted descriptor offset = cond (breaksShape wanted descriptor offset) F
 unfoldable pub decodedAt : List ℕ → (i place : ℕ) → Decoded
 decodedAt list i place = decoded (hasPlace (opcodeAt list i) place) (descriptorAt list i place) (offsetAt list i place)
 
--- Paper 01's number for each answer: 22 SHAPE for a fault, 0 for a varnode.
+-- The number of each answer: 22 SHAPE for a fault, 0 for a varnode.
 unfoldable pub ruleOf : Decoded → ℕ
 ruleOf (Accepted v) = 0
 ruleOf Fault = 22

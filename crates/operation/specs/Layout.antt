@@ -1,4 +1,4 @@
--- Paper 01, 'The list': how operations lie in their words.
+-- The list: how operations lie in their words.
 use Prim.Native.Nat.{ℕ, _+_, _*_, _/_, _%_, _^_}
 use mathlib.Core.List.{List}
 use lib.ListN.{length, getD}

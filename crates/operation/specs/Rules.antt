@@ -1,4 +1,4 @@
--- Paper 01, 'Well-formed operations': the rules 21 to 26, each as a test that an operation breaks it.
+-- The rules 21 to 26 of well-formed operations, each as a test that an operation breaks it.
 use Prim.Native.Nat.{ℕ, _+_, _/_, _%_, _^_}
 use mathlib.Core.Bool.{Bool, false, cond, not, _&&_, _||_, xor}
 use mathlib.Core.List.{List, [], _∷_}
@@ -21,14 +21,14 @@ breaksHead list i =
     not (leb 1 (opcodeAt list i) && leb (opcodeAt list i) lastOpcode)
     || not (eqb (spareAt list i) 0)
 
--- ---- 22 SHAPE: a varnode present or absent against the manual; a non-zero descriptor with space not 1 to 4 or size not 1 to 8;
--- absent with non-zero offset.
+-- ---- 22 SHAPE: a varnode where the opcode has none, or none where it has one; a non-zero descriptor with space not 1 to 4 or size not
+-- 1 to 8; absent with non-zero offset.
 
 -- A space of 1 to 4 and a size of 1 to 8.
 unfoldable pub describesVarnode : (descriptor : ℕ) → Bool
 describesVarnode descriptor = leb 1 (descriptor / 16) && leb (descriptor / 16) 4 && isSize (descriptor % 16)
 
--- A descriptor and its offset break 22; `wanted`: the manual has a varnode at this place.
+-- A descriptor and its offset break 22; `wanted`: the opcode has a varnode at this place.
 unfoldable pub breaksShape : (wanted : Bool) (descriptor offset : ℕ) → Bool
 breaksShape wanted descriptor offset =
     xor wanted (not (eqb descriptor 0))

@@ -36,7 +36,7 @@ pub fn decode_at(list: &[u64], i: usize, place: u8) -> Decoded
     )
 }
 
-// The varnode of a descriptor and its offset word, where the manual wants one or not; one that is rightly absent has size 0. A fault is
+// The varnode of a descriptor and its offset word, where the opcode has one or not; one that is rightly absent has size 0. A fault is
 // rule 22.
 fn decode(wanted: bool, descriptor: u64, offset: u64) -> Decoded
     ensures answer { λ r. ⌜ r ≡ decoded wanted descriptor offset ⌝ }

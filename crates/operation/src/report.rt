@@ -1,4 +1,4 @@
-// What a call answers: paper 01's report.
+// What a call answers: the papers' report.
 ghost use mathlib.Core.Path.{_≡_};
 
 // Numbers of a report.

@@ -1,4 +1,4 @@
-// Paper 01's rules 21 and 23 to 26: tests that an operation breaks them. Rule 22 is decode's.
+// The rules 21 and 23 to 26: tests that an operation breaks them. Rule 22 is decode's.
 ghost use mathlib.Core.Path.{_≡_};
 ghost use Prim.Native.Nat.{_*_, _<_, _≤_};
 ghost use lib.ListN.{length};

@@ -7,7 +7,7 @@ use run_labelled::run_any;
 use run_refusal::labelled_refusal;
 use run_refusal::plain_refusal;
 
-// A run of at most `budget` operations, from operation `start`, without labels: paper 01's plain run.
+// A run of at most `budget` operations, from operation `start`, without labels: the papers' plain run.
 pub fn run(
     settings: Settings,
     list: &[u64],
@@ -46,7 +46,7 @@ pub fn run(
     )
 }
 
-// A run with a label for each byte of each space, 0 public or 1 secret: paper 01's labelled run.
+// A run with a label for each byte of each space, 0 public or 1 secret: the papers' labelled run.
 pub fn labelled_run(
     settings: Settings,
     list: &[u64],

@@ -28,7 +28,7 @@ showable n offset size = isSize size && leb (offset + size) n
 unfoldable pub shownIn : RefT (List ℕ) → (offset size : ℕ) → View
 shownIn s offset size = cond (showable (length (now s)) offset size) (partOf s offset size) (partOf s 0 0)
 
--- The part of a space, by its number. Paper 01 leaves open where the empty part of another space number lies; it is ram's.
+-- The part of a space, by its number. A number that is no space with bytes has the empty part, at the start of ram.
 unfoldable pub shown : (unique register ram : RefT (List ℕ)) (space offset size : ℕ) → View
 shown unique register ram space offset size =
     cond (eqb space 2) (shownIn unique offset size)

@@ -1,4 +1,4 @@
--- The number that each call of the C interface answers: that of the lowest fault, by paper 01's numbers, or 0.
+-- The number that each call of the C interface answers: the lowest of its faults, or 0.
 use Prim.Native.Nat.{ℕ, _+_, _^_}
 use mathlib.Core.Bool.{Bool, cond, not, _&&_}
 use lib.Dec.{eqb, leb, ltb}

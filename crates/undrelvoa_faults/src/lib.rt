@@ -1,4 +1,4 @@
-// What is wrong with a call of the C interface, by paper 01's numbers; 0 where nothing is. Each test is total, so that a new one is one line.
+// What is wrong with a call of the C interface, by its number; 0 where nothing is. Each test is total, so that a new one is one line.
 ghost use mathlib.Core.Path.{_≡_};
 ghost use Rattle.undrelvoa_faults.specs.Faults.{sizesPresent, valueFault, gatherFault, scatterFault};
 use arithmetic::opcodes::FIRST_INTEGER;

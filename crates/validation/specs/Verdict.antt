@@ -1,4 +1,4 @@
--- Paper 01's judge: the verdict on a list.
+-- The papers' judge: the verdict on a list.
 use Prim.Native.Nat.{ℕ, zero, suc, _+_, _%_}
 use mathlib.Core.Bool.{Bool, false, cond, not, _&&_, _||_}
 use mathlib.Core.List.{List}

@@ -16,7 +16,7 @@ pub record WellFormed (addressSize : ℕ) (lengths : Lengths) (list : List ℕ) 
   -- 21: an opcode, and no spare byte that is not zero
   pub opcode : (1 ≤ opcodeAt list i) × (opcodeAt list i ≤ lastOpcode)
   pub spare : spareAt list i ≡ 0
-  -- 22: a varnode that the manual has is in a space of 1 to 4, with a size of 1 to 8; any other is absent, with offset 0
+  -- 22: a varnode that the opcode has is in a space of 1 to 4, with a size of 1 to 8; any other is absent, with offset 0
   pub present : (place : ℕ) → place ≤ mostInputs → hasPlace (opcodeAt list i) place ≡ true
       → (1 ≤ varnodeAt list i place .space) × (varnodeAt list i place .space ≤ 4)
       × (1 ≤ varnodeAt list i place .size) × (varnodeAt list i place .size ≤ 8)

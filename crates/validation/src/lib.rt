@@ -1,4 +1,4 @@
-// Paper 01's judge: the verdict on a list of operations.
+// The papers' judge: the verdict on a list of operations.
 ghost use mathlib.Core.Path.{_≡_};
 ghost use Prim.Native.Nat.{_+_, _*_, _≤_};
 ghost use lib.ListN.{length};

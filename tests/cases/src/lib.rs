@@ -4,6 +4,7 @@
 pub mod damage;
 pub mod large;
 pub mod lines;
+pub mod list;
 pub mod process;
 pub mod random_cases;
 pub mod stored;

@@ -32,7 +32,7 @@ mod tests {
     use super::*;
 
     #[test]
-    fn lines_of_the_papers_case() {
+    fn lines_of_the_worked_example() {
         let settings = Settings { order: 0, address_size: 4 };
         let lengths = Lengths { unique: 16, register: 16, ram: 16 };
         assert_eq!(

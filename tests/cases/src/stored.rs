@@ -1,4 +1,4 @@
-//! The cases that are stored in `cases/`, one folder each, and the table that lists them.
+//! The cases that are stored in `cases/`: a folder for each heading, and in it one for each case.
 
 use std::collections::BTreeMap;
 use std::fs;
@@ -13,31 +13,47 @@ pub struct StoredCase {
 }
 
 impl StoredCase {
-    /// Whether its output was worked out from the paper, with the working written down.
+    /// What it shows: the heading that `about.md` begins with.
+    pub fn title(&self) -> Option<&str> {
+        let title = self.about.lines().next()?.strip_prefix("# ")?.trim();
+        (!title.is_empty()).then_some(title)
+    }
+
+    /// Whether its output was worked out by hand, with the working written down.
     pub fn is_worked_by_hand(&self) -> bool {
         let working = self.about.split_once("\n## Worked by hand\n");
         working.is_some_and(|(_, working)| !working.trim().is_empty())
     }
 }
 
-/// The files that each folder has.
+/// The files that the folder of a case has.
 pub const FILES: [&str; 3] = ["about.md", "input", "output"];
 
-/// Reads the cases, each under its folder's name.
-pub fn read(cases: &Path) -> io::Result<BTreeMap<String, StoredCase>> {
+/// Reads the cases, each under its path in `cases/`: heading and name. What is missing is named.
+pub fn read(cases: &Path) -> Result<BTreeMap<String, StoredCase>, String> {
     let mut stored = BTreeMap::new();
-    for name in names_in(cases)? {
-        let folder = cases.join(&name);
-        if folder.is_dir() {
-            let case = StoredCase {
-                input: fs::read(folder.join("input"))?,
-                output: fs::read(folder.join("output"))?,
-                about: fs::read_to_string(folder.join("about.md"))?,
-            };
-            stored.insert(name, case);
+    for heading in names_in(cases).map_err(|error| format!("cases: {error}"))? {
+        let folder = cases.join(&heading);
+        if !folder.is_dir() {
+            continue;
+        }
+        for name in names_in(&folder).map_err(|error| format!("cases/{heading}: {error}"))? {
+            let path = format!("{heading}/{name}");
+            let case = read_case(&cases.join(&path)).map_err(|(file, error)| {
+                format!("cases/{path}/{file}: {error}; a case is a folder cases/HEADING/NAME with {FILES:?}")
+            })?;
+            stored.insert(path, case);
         }
     }
     Ok(stored)
+}
+
+/// Reads one case, or says which file cannot be read.
+fn read_case(folder: &Path) -> Result<StoredCase, (&'static str, io::Error)> {
+    let [about, input, output] =
+        FILES.map(|file| fs::read(folder.join(file)).map_err(|error| (file, error)));
+    let about = String::from_utf8_lossy(&about?).into_owned();
+    Ok(StoredCase { input: input?, output: output?, about })
 }
 
 /// The names in a folder, in order.
@@ -50,28 +66,24 @@ pub fn names_in(folder: &Path) -> io::Result<Vec<String>> {
     Ok(names)
 }
 
-/// The names that a table lists: what stands in backticks in the first cell of each row.
-pub fn names_in_table(text: &str) -> Vec<String> {
-    let name = |row: &str| Some(row.strip_prefix("| `")?.split_once('`')?.0.to_string());
-    let mut names: Vec<String> = text.lines().filter_map(name).collect();
-    names.sort();
-    names
-}
-
 #[cfg(test)]
 mod tests {
     use super::*;
 
+    fn case(about: &str) -> StoredCase {
+        StoredCase { input: vec![], output: vec![], about: about.to_string() }
+    }
+
     #[test]
-    fn a_table_lists_the_names_of_its_rows() {
-        let text = "| Case | What |\n|---|---|\n| `b` | two `x` |\n| `a` | one |\nnot `c` |\n";
-        assert_eq!(names_in_table(text), ["a", "b"]);
+    fn a_title_is_the_first_line() {
+        assert_eq!(case("# One byte\n\n# Two\n").title(), Some("One byte"));
+        for about in ["", "\n# One\n", "One\n", "# \n", "## One\n"] {
+            assert_eq!(case(about).title(), None);
+        }
     }
 
     #[test]
     fn working_is_more_than_its_heading() {
-        let case =
-            |about: &str| StoredCase { input: vec![], output: vec![], about: about.to_string() };
         assert!(case("# A\n\n## Worked by hand\n\n- 1 + 1 = 2\n").is_worked_by_hand());
         assert!(!case("# A\n\n## Worked by hand\n\n").is_worked_by_hand());
         assert!(!case("# A\n\nWorked by hand\n").is_worked_by_hand());

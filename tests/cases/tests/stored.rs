@@ -1,12 +1,13 @@
-//! The stored cases: the case program and the second program print what is stored, and the folders
-//! are as `cases/README.md` says.
+//! The stored cases: the case program and the second program print what is stored, and the lists of
+//! `cases/README.md` are made from the titles.
 
 use std::collections::BTreeMap;
 use std::fs;
 use std::path::PathBuf;
 
+use cases::list::{difference, with_lists, DOCUMENT};
 use cases::process::{assert_printed, repository, CaseProgram, WHOLE};
-use cases::stored::{names_in, names_in_table, read, StoredCase, FILES};
+use cases::stored::{names_in, read, StoredCase, FILES};
 use cases::tally::{ending, Tally, ENDINGS};
 use reference::case::{output, BAD_LINE};
 
@@ -18,7 +19,7 @@ fn folder() -> PathBuf {
 }
 
 fn stored() -> BTreeMap<String, StoredCase> {
-    read(&folder()).expect("each folder of cases/ has input, output and about.md")
+    read(&folder()).unwrap_or_else(|complaint| panic!("{complaint}"))
 }
 
 #[test]
@@ -64,7 +65,7 @@ fn second_program_on_stored_cases() {
 fn names_of_bad_lines() {
     for (name, case) in &stored() {
         let is_bad = ending(&case.output) == Some(BAD_LINE);
-        assert_eq!(name.starts_with("bad-line-"), is_bad, "the name of cases/{name}");
+        assert_eq!(name.starts_with("bad-lines/"), is_bad, "cases/{name}: a bad line, or none");
     }
 }
 
@@ -77,10 +78,12 @@ fn folders_have_three_files() {
 }
 
 #[test]
-fn table_lists_the_folders() {
-    let table = fs::read_to_string(folder().join("README.md")).expect("cases/README.md");
-    let folders: Vec<String> = stored().into_keys().collect();
-    assert_eq!(names_in_table(&table), folders, "the table of cases/README.md and the folders");
+fn lists_have_the_titles() {
+    let document = fs::read_to_string(repository().join(DOCUMENT)).expect(DOCUMENT);
+    let made = with_lists(&document, &stored()).unwrap_or_else(|complaint| panic!("{complaint}"));
+    if let Some(message) = difference(&document, &made) {
+        panic!("{message}");
+    }
 }
 
 #[test]

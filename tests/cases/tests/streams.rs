@@ -39,7 +39,11 @@ fn input_that_is_not_open_to_read() {
 fn failed_write() {
     let program = CaseProgram::find();
     let folder = repository().join("cases");
-    for name in ["worked-example", "bad-line-empty-input", "space-of-4096-bytes"] {
+    for name in [
+        "operations/worked-example",
+        "bad-lines/bad-line-empty-input",
+        "text-and-output/space-of-4096-bytes",
+    ] {
         let input = File::open(folder.join(name).join("input")).expect("a stored case");
         let printed = program.run_with(input, open_to_write("/dev/full"));
         assert_complains(&printed);

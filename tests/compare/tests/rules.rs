@@ -36,9 +36,9 @@ fn ending_between(entry: Entry) -> u64 {
     ending_of(LENGTHS, &[other, entry, other])
 }
 
-/// The operation with this name of the manual.
+/// The operation with this name.
 fn named(name: &str) -> &'static Operation {
-    OPERATIONS.iter().find(|operation| operation.name == name).expect("a name of the manual")
+    OPERATIONS.iter().find(|operation| operation.name == name).expect("a name of an operation")
 }
 
 /// The same operation with another varnode at a place.

@@ -1,5 +1,5 @@
 //! `undrelvoa_run`, `undrelvoa_labelled_run` and their steps, and the second program: random programs,
-//! secret bytes that must not show, runs that are resumed, and paper 01's results.
+//! secret bytes that must not show, runs that are resumed, and known results.
 
 use std::iter::zip;
 

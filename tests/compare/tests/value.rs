@@ -58,7 +58,7 @@ fn mixes_of_all() -> Vec<Vec<Sizes>> {
     INTEGER_OPERATIONS.iter().map(|operation| operation.allowed_sizes(ANY_ADDRESS_SIZE)).collect()
 }
 
-/// The operations with these names of the manual.
+/// The operations with these names.
 fn named(names: &[&str]) -> Vec<&'static Operation> {
     INTEGER_OPERATIONS.iter().filter(|operation| names.contains(&operation.name)).collect()
 }

@@ -1,4 +1,4 @@
-//! `undrelvoa_validate` and the second program: random lists, most of them damaged, and paper 01's
+//! `undrelvoa_validate` and the second program: random lists, most of them damaged, and known
 //! results.
 
 use std::fmt;
@@ -21,7 +21,7 @@ const RULES: [u64; 6] = [21, 22, 23, 24, 25, 26];
 const ENDING_QUOTA: u64 = 1_000;
 const OPCODE_QUOTA: u64 = 20;
 
-/// Whether an operation with a good opcode can break a rule of paper 01.
+/// Whether an operation with a good opcode can break a rule.
 fn can_break(operation: &Operation, rule: u64) -> bool {
     match (rule, operation.name) {
         // Any operation has spare head bytes, and varnodes that can be absent.

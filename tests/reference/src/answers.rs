@@ -178,7 +178,7 @@ mod tests {
     }
 
     #[test]
-    fn input1_is_present_or_absent_as_in_the_manual() {
+    fn input1_is_present_or_absent_by_its_opcode() {
         let mut call = DIVISION;
         call.sizes.input1 = 0;
         assert_eq!(value_answer(&call, 1), Err(22));

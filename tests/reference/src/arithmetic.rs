@@ -1,4 +1,4 @@
-//! The value of each integer operation, in the order of paper 01.
+//! The value of each integer operation, in the order of the opcodes.
 //!
 //! A value is a whole number below 256^size. `a` and `b` are the values of input0 and input1.
 

@@ -8,7 +8,7 @@ pub enum ByteOrder {
 }
 
 impl ByteOrder {
-    /// The byte order with paper 01's number, if there is one.
+    /// The byte order with a number, if there is one.
     pub fn with_number(number: u64) -> Option<ByteOrder> {
         match number {
             0 => Some(ByteOrder::Little),

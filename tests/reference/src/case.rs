@@ -195,7 +195,7 @@ mod tests {
     }
 
     #[test]
-    fn the_case_of_the_paper() {
+    fn the_worked_example() {
         let text = "\
 01000400000010000000100000001000000064
 0203000000000d000000

@@ -1,4 +1,4 @@
-//! The numbers that paper 01 gives to faults: what a call refuses, and what stops a run.
+//! The numbers of the faults: what a call refuses, and what stops a run.
 
 /// A byte order that is neither 0 nor 1, or an address size that is not 1 to 8.
 pub const SETTING: u64 = 10;
@@ -8,7 +8,7 @@ pub const LENGTH: u64 = 11;
 pub const LABEL: u64 = 12;
 /// An opcode out of range, or a spare head byte that is not zero.
 pub const HEAD: u64 = 21;
-/// A space or a size out of range, or an operand present or absent against the manual.
+/// A space or a size out of range, an operand where the opcode has none, or none where it has one.
 pub const SHAPE: u64 = 22;
 /// A varnode in a space where its operation does not allow it.
 pub const PLACE: u64 = 23;

@@ -1,5 +1,5 @@
-//! The second program: p-code written from paper 01 and the P-Code manual alone, to be compared
-//! with the proved interpreter.
+//! The second program: p-code written from the papers alone, to be compared with the proved
+//! interpreter.
 //!
 //! It is written to be read against the papers, not to be fast. Numbers are `u128` and `i128`, wide
 //! enough that every sum, product and signed value of 8-byte operands is the mathematical one; each

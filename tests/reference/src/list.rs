@@ -60,7 +60,7 @@ pub fn varnode(descriptor: u8, offset: u64) -> Varnode {
 pub mod tests {
     use super::*;
 
-    /// The operations of paper 01's case: unique = register & 7, a load from ram, and a copy.
+    /// The operations of the worked example: unique = register & 7, a load from ram, and a copy.
     pub const CASE: [[u64; WORDS_PER_OPERATION]; 3] = [
         [0x000000001434241d, 0, 0, 7, 0],
         [0x0000000024112102, 4, 4, 0, 0],

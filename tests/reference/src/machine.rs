@@ -1,4 +1,4 @@
-//! One operation of a well-formed list: its checks in paper 01's order, and then what it does. The
+//! One operation of a well-formed list: its checks in their order, and then what it does. The
 //! plain machine is the one without labels.
 
 use crate::arithmetic::value;

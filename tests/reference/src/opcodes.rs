@@ -1,11 +1,11 @@
-//! The operations: paper 01's numbers, the manual's names, which varnodes there are, and rule 25.
+//! The operations: their numbers and names, which varnodes there are, and rule 25.
 
 use crate::varnode::is_operand_size;
 
 use Opcode::*;
 use SizeRule::*;
 
-/// The operations, numbered as in paper 01.
+/// The operations by their numbers.
 #[derive(Clone, Copy, Debug, PartialEq, Eq)]
 pub enum Opcode {
     Copy = 1,
@@ -107,7 +107,7 @@ impl SizeRule {
     }
 }
 
-/// What paper 01 and the manual say of one opcode's varnodes.
+/// An opcode and its varnodes.
 #[derive(Clone, Copy, Debug)]
 pub struct Operation {
     pub opcode: Opcode,
@@ -214,7 +214,7 @@ impl Operation {
         [self.has_output, self.input_count > 0, self.input_count > 1, self.input_count > 2]
     }
 
-    /// Rule 22 SHAPE for sizes: 1 to 8 for each varnode that the manual gives, 0 for an absent one.
+    /// Rule 22 SHAPE for sizes: 1 to 8 for each varnode that the opcode has, 0 for an absent one.
     pub fn shape_allows(&self, sizes: Sizes) -> bool {
         let holds = |present, size| if present { is_operand_size(size) } else { size == 0 };
         let [output, input0, input1, _] = self.present();
@@ -243,7 +243,7 @@ mod tests {
     use super::*;
 
     #[test]
-    fn table_follows_the_numbers_of_the_paper() {
+    fn table_follows_the_numbers() {
         let numbers = |operations: &[Operation]| -> Vec<u64> {
             operations.iter().map(Operation::number).collect()
         };
@@ -252,7 +252,7 @@ mod tests {
     }
 
     #[test]
-    fn names_stand_at_the_numbers_of_the_paper() {
+    fn names_stand_at_their_numbers() {
         let names =
             "1 COPY, 2 LOAD, 3 STORE, 4 BRANCH, 5 CBRANCH, 6 BRANCHIND, 7 CALL, 8 CALLIND, \
             9 RETURN, 10 PIECE, 11 SUBPIECE, 12 POPCOUNT, 13 INT_EQUAL, 14 INT_NOTEQUAL, \
@@ -268,7 +268,7 @@ mod tests {
     }
 
     #[test]
-    fn varnodes_are_those_of_the_manual() {
+    fn varnodes_of_each_operation() {
         for operation in &OPERATIONS {
             let expected = match operation.name {
                 "STORE" => [false, true, true, true],

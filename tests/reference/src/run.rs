@@ -160,7 +160,7 @@ mod tests {
     }
 
     #[test]
-    fn the_case_of_the_paper() {
+    fn the_worked_example() {
         let mut state = labelled(state(&[0; 16], &[0; 16], &[0; 16]));
         state.memory.register[0] = 0x0d;
         state.memory.ram[5] = 0x5a;

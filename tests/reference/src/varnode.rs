@@ -1,6 +1,6 @@
 //! Varnodes, the spaces that they lie in, and showing one.
 
-/// The numbers that paper 01 gives to the spaces.
+/// The numbers of the spaces.
 pub const CONSTANT: u64 = 1;
 pub const UNIQUE: u64 = 2;
 pub const REGISTER: u64 = 3;

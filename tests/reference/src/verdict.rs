@@ -1,4 +1,4 @@
-//! The verdict on a list: 'Well-formed operations' of paper 01, one function for each rule.
+//! The verdict on a list: the rules 21 to 26, one function for each.
 
 use crate::arithmetic::fits;
 use crate::bytes::ByteOrder;
@@ -138,7 +138,7 @@ fn operation_of_head(entry: &Entry) -> Option<&'static Operation> {
     (entry.spare == [0; 3]).then_some(operation)
 }
 
-/// Rule 22 SHAPE: the varnodes, if those of the manual and no others are there.
+/// Rule 22 SHAPE: the varnodes, if those of the opcode and no others are there.
 fn varnodes_of_shape(operation: &Operation, entry: &Entry) -> Option<Varnodes> {
     let mut varnodes = [None; 4];
     for (place, present) in operation.present().into_iter().enumerate() {
@@ -250,7 +250,7 @@ mod tests {
     }
 
     #[test]
-    fn the_case_of_the_paper_is_well_formed() {
+    fn the_worked_example_is_well_formed() {
         let lengths = Lengths { unique: 16, register: 16, ram: 16 };
         assert_eq!(verdict(&SETTINGS, &lengths, &CASE.concat()).numbers(), [0, 3, 0, 0, 0]);
     }
@@ -323,10 +323,10 @@ mod tests {
 
     #[test]
     fn rule_22_shape() {
-        // Absent against the manual.
+        // Absent where the opcode has one.
         assert_eq!(rule_of([0x34_00_01, 0, 0, 0, 0]), 22);
         assert_eq!(rule_of([0x00_24_01, 0, 0, 0, 0]), 22);
-        // Present against the manual.
+        // Present where the opcode has none.
         assert_eq!(rule_of([0x11_34_24_01, 0, 0, 0, 0]), 22);
         assert_eq!(rule_of([0x11_11_24_04, 0, 0, 0, 0]), 22);
         // A space that is not 1 to 4, a size that is not 1 to 8.
