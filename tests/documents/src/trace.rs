@@ -15,7 +15,7 @@ pub fn problems(repository: &Repository) -> Vec<String> {
     };
     let mut problems = Vec::new();
     let mut named = BTreeSet::new();
-    let rows = rows(&Kind { document: DOCUMENT, header: HEADER }, text, &mut problems);
+    let rows = rows(&Kind { document: DOCUMENT, header: &HEADER }, text, &mut problems);
     if rows.is_empty() {
         problems
             .push(format!("{DOCUMENT}: it has no row under the header | {} |", HEADER.join(" | ")));
