@@ -16,6 +16,24 @@ pub fn lines_outside_fences(text: &str) -> Vec<(usize, &str)> {
     lines
 }
 
+/// The texts of the fenced blocks, with a newline after each line.
+pub fn fenced_blocks(text: &str) -> Vec<String> {
+    let mut blocks = Vec::new();
+    let mut open: Option<String> = None;
+    for line in text.lines() {
+        if line.trim_start().starts_with(FENCE) {
+            match open.take() {
+                Some(block) => blocks.push(block),
+                None => open = Some(String::new()),
+            }
+        } else if let Some(block) = &mut open {
+            block.push_str(line);
+            block.push('\n');
+        }
+    }
+    blocks
+}
+
 /// Whether the last fenced block ends: what follows one that does not would be left out.
 pub fn fences_are_closed(text: &str) -> bool {
     let fences = text.lines().filter(|line| line.trim_start().starts_with(FENCE));
@@ -73,6 +91,11 @@ mod tests {
         assert_eq!(lines_outside_fences("a\n```sh\nb\n```\nc"), [(1, "a"), (5, "c")]);
         assert!(fences_are_closed("a\n```sh\nb\n```\nc"));
         assert!(!fences_are_closed("a\n```sh\nb"));
+    }
+
+    #[test]
+    fn fenced_blocks_are_found() {
+        assert_eq!(fenced_blocks("a\n```sh\nb\nc\n```\nd\n```\n```\n"), ["b\nc\n", ""]);
     }
 
     #[test]

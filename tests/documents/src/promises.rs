@@ -15,7 +15,7 @@ pub fn problems(repository: &Repository) -> Vec<String> {
         return vec![format!("{DOCUMENT}: there is no such file")];
     };
     let mut problems = Vec::new();
-    let rows = rows(&Kind { document: DOCUMENT, header: HEADER }, text, &mut problems);
+    let rows = rows(&Kind { document: DOCUMENT, header: &HEADER }, text, &mut problems);
     for (number, row) in &rows {
         let found = problems_of_row(repository, row);
         problems.extend(found.into_iter().map(|problem| format!("{DOCUMENT}:{number}: {problem}")));

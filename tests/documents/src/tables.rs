@@ -8,22 +8,33 @@ pub type Row = (usize, Vec<String>);
 /// A kind of table: the document that has it, and its header.
 pub struct Kind {
     pub document: &'static str,
-    pub header: [&'static str; 4],
+    pub header: &'static [&'static str],
 }
 
 /// The rows below each header of this kind.
 pub fn rows(kind: &Kind, text: &str, problems: &mut Vec<String>) -> Vec<Row> {
     let mut rows = Vec::new();
+    for table in tables(text) {
+        rows.extend(rows_of_table(kind, table, problems));
+    }
+    rows
+}
+
+/// The tables of a text, each with its header and the line of dashes. A row that is not closed has no cells.
+pub fn tables(text: &str) -> Vec<Vec<Row>> {
+    let mut tables = Vec::new();
     let mut table = Vec::new();
     for (number, line) in lines_outside_fences(text) {
         if line.trim_start().starts_with('|') {
             table.push((number, cells(line).unwrap_or_default()));
-        } else {
-            rows.extend(rows_of_table(kind, std::mem::take(&mut table), problems));
+        } else if !table.is_empty() {
+            tables.push(std::mem::take(&mut table));
         }
     }
-    rows.extend(rows_of_table(kind, table, problems));
-    rows
+    if !table.is_empty() {
+        tables.push(table);
+    }
+    tables
 }
 
 /// The rows of one table, without its header and the line of dashes; none of a table of another kind.
@@ -37,7 +48,7 @@ fn rows_of_table(kind: &Kind, table: Vec<Row>, problems: &mut Vec<String>) -> Ve
         problems.push(format!(
             "{document}:{number}: a header and a line of dashes must start the table"
         ));
-    } else if *header == *expected {
+    } else if header == expected {
         return table.into_iter().skip(2).collect();
     } else if header.first().is_some_and(|cell| cell == expected[0]) {
         problems

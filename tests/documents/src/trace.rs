@@ -1,13 +1,15 @@
-//! The trace: a table that leads from each sentence of the papers to the definition, the promise and
-//! the test that stand for it. Each of its references must lead to a declaration that is there.
+//! The trace: a table that leads from each rule of the reference to the definition, the promise and the
+//! test that stand for it. Each of its references must lead to a declaration that is there.
 
+use crate::reference::{self, rules, Rule};
 use crate::references::{is_edit, problems_of_reference, references};
 use crate::repository::Repository;
 use crate::tables::{rows, Kind};
 use std::collections::BTreeSet;
 
 const DOCUMENT: &str = "docs/TRACE.md";
-const HEADER: [&str; 4] = ["Paper", "Definition", "Promise or theorem", "Noticed by"];
+const HEADER: [&str; 5] = ["Rule", "From", "Definition", "Promise or theorem", "Noticed by"];
+const SOURCES: [&str; 5] = ["paper 01", "paper 02", "manual", "decision", "demand"];
 
 pub fn problems(repository: &Repository) -> Vec<String> {
     let Some(text) = repository.text(DOCUMENT) else {
@@ -15,7 +17,7 @@ pub fn problems(repository: &Repository) -> Vec<String> {
     };
     let mut problems = Vec::new();
     let mut named = BTreeSet::new();
-    let rows = rows(&Kind { document: DOCUMENT, header: HEADER }, text, &mut problems);
+    let rows = rows(&Kind { document: DOCUMENT, header: &HEADER }, text, &mut problems);
     if rows.is_empty() {
         problems
             .push(format!("{DOCUMENT}: it has no row under the header | {} |", HEADER.join(" | ")));
@@ -25,12 +27,38 @@ pub fn problems(repository: &Repository) -> Vec<String> {
             problems.push(format!("{DOCUMENT}:{number}: {problem}"));
         }
     }
+    let traced: Vec<Rule> = rows.iter().filter_map(|(_, row)| rule_of(row.first()?)).collect();
+    problems.extend(problems_of_rules(repository, &traced));
     let edits = repository.files().map(|(path, _)| path).filter(|path| is_edit(path));
     for edit in edits.filter(|path| !named.contains(*path)) {
         problems
-            .push(format!("{DOCUMENT}: no row names {edit}, which guards a rule of the papers"));
+            .push(format!("{DOCUMENT}: no row names {edit}, which guards a rule of the reference"));
     }
     problems
+}
+
+/// Every rule of the reference has a row, and every row a rule of the reference.
+fn problems_of_rules(repository: &Repository, traced: &[Rule]) -> Vec<String> {
+    let reference = repository.text(reference::DOCUMENT).unwrap_or_default();
+    let rules: BTreeSet<Rule> = rules(reference).into_iter().map(|(_, rule)| rule).collect();
+    let traced: BTreeSet<Rule> = traced.iter().copied().collect();
+    let untraced = rules.difference(&traced);
+    let unknown = traced.difference(&rules);
+    untraced
+        .map(|rule| format!("{DOCUMENT}: no row has the rule {rule}"))
+        .chain(
+            unknown.map(|rule| format!("{DOCUMENT}: {} has no rule {rule}", reference::DOCUMENT)),
+        )
+        .collect()
+}
+
+/// The rule that a cell names: its number, and a phrase behind it.
+fn rule_of(cell: &str) -> Option<Rule> {
+    let (number, phrase) = cell.split_once(' ')?;
+    if phrase.trim().is_empty() {
+        return None;
+    }
+    Rule::of(number)
 }
 
 fn problems_of_row(
@@ -38,17 +66,24 @@ fn problems_of_row(
     row: &[String],
     named: &mut BTreeSet<String>,
 ) -> Vec<String> {
-    let [paper, rest @ ..] = row else {
-        return vec!["the row has no closing |".to_string()];
+    let [rule, from, rest @ ..] = row else {
+        return vec![if row.is_empty() {
+            "the row has no closing |".to_string()
+        } else {
+            format!("the row has {} cells, not {}", row.len(), HEADER.len())
+        }];
     };
-    if rest.len() != 3 {
-        return vec![format!("the row has {} cells, not 4", row.len())];
+    if row.len() != HEADER.len() {
+        return vec![format!("the row has {} cells, not {}", row.len(), HEADER.len())];
     }
     let mut problems = Vec::new();
-    if paper.is_empty() {
-        problems.push(format!("{}: the cell is empty", HEADER[0]));
+    if rule_of(rule).is_none() {
+        problems.push(format!("{}: '{rule}' is no number with a phrase behind it", HEADER[0]));
     }
-    for (cell, title) in rest.iter().zip(&HEADER[1..]) {
+    if !SOURCES.iter().any(|source| from.starts_with(source)) {
+        problems.push(format!("{}: '{from}' is none of {SOURCES:?}", HEADER[1]));
+    }
+    for (cell, title) in rest.iter().zip(&HEADER[2..]) {
         let found = problems_of_cell(repository, cell, named);
         problems.extend(found.into_iter().map(|problem| format!("{title}: {problem}")));
     }
@@ -92,8 +127,9 @@ mod tests {
 
     const WORD: &str = "crates/word/specs/Word.antt";
     const EDIT: &str = "crates/word/must-fail/low.edit";
-    const TOP: &str =
-        "Prose.\n\n| Paper | Definition | Promise or theorem | Noticed by |\n|---|---|---|---|\n";
+    const TOP: &str = "Prose.\n\n| Rule | From | Definition | Promise or theorem | Noticed by |\n\
+                       |---|---|---|---|---|\n";
+    const RULES: &str = "## 1 Words\n\n**1.1** A word has 8 bits.\n";
 
     /// The problems of a trace with these rows, the first of which stands in line 5.
     fn problems_of(rows: &str) -> Vec<String> {
@@ -102,6 +138,7 @@ mod tests {
         let test = "#[test]\nfn adds() {}\n";
         problems(&Repository::of(&[
             (DOCUMENT, &trace),
+            (reference::DOCUMENT, RULES),
             (WORD, word),
             (EDIT, ""),
             ("tests/a/b.rs", test),
@@ -109,7 +146,7 @@ mod tests {
     }
 
     fn row(definition: &str) -> String {
-        format!("| A word has 8 bits. | {definition} | none: it is a definition | `{EDIT}`; also `tests/a/b.rs` `adds` |\n")
+        format!("| 1.1 bits of a word | manual | {definition} | none: it is a definition | `{EDIT}`; also `tests/a/b.rs` `adds` |\n")
     }
 
     fn only_problem(definition: &str) -> String {
@@ -159,14 +196,31 @@ mod tests {
         let good = row(&format!("`{WORD}` `valueOf`"));
         assert_eq!(
             problems_of(&format!("{good}| a | b |\n")),
-            [format!("{DOCUMENT}:6: the row has 2 cells, not 4")]
+            [format!("{DOCUMENT}:6: the row has 2 cells, not 5")]
         );
         assert_eq!(
             problems_of(&format!("{good}| a | b\n")),
             [format!("{DOCUMENT}:6: the row has no closing |")]
         );
-        let no_paper = format!("{good}| | none: a | none: b | none: c |\n");
-        assert_eq!(problems_of(&no_paper), [format!("{DOCUMENT}:6: Paper: the cell is empty")]);
+        let no_rule = format!("{good}| 1.1 | manual | none: a | none: b | none: c |\n");
+        assert_eq!(
+            problems_of(&no_rule),
+            [format!("{DOCUMENT}:6: Rule: '1.1' is no number with a phrase behind it")]
+        );
+        let no_source = format!("{good}| 1.1 a | | none: a | none: b | none: c |\n");
+        assert!(problems_of(&no_source)[0].starts_with(&format!("{DOCUMENT}:6: From: '' is none")));
+    }
+
+    #[test]
+    fn a_rule_without_a_row_and_a_row_without_a_rule_are_reported() {
+        let other = row("none: a").replace("1.1", "1.2");
+        assert_eq!(
+            problems_of(&other),
+            [
+                format!("{DOCUMENT}: no row has the rule 1.1"),
+                format!("{DOCUMENT}: {} has no rule 1.2", reference::DOCUMENT)
+            ]
+        );
     }
 
     #[test]
@@ -177,13 +231,13 @@ mod tests {
 
     #[test]
     fn all_problems_are_reported_at_once() {
-        let bad = "| a | none: | `b/c` `d` | e |\n";
+        let bad = "| 1.1 a | manual | none: | `b/c` `d` | e |\n";
         assert_eq!(problems_of(&format!("{}{bad}", row("none: a"))).len(), 3);
     }
 
     #[test]
     fn an_edit_that_no_row_names_is_reported() {
-        let problems = problems_of("| a | none: b | none: c | none: d |\n");
+        let problems = problems_of("| 1.1 a | manual | none: b | none: c | none: d |\n");
         assert_eq!(problems.len(), 1);
         assert!(problems[0].contains(&format!("no row names {EDIT}")));
     }
@@ -198,15 +252,17 @@ mod tests {
     fn other_tables_are_left_alone_but_a_slip_in_the_header_is_not() {
         let good = row("none: a");
         assert_eq!(problems_of(&format!("{good}\n| a | b |\n|---|---|\n| c | d |\n")), [""; 0]);
-        let slip = problems_of(&format!("{good}\n| Paper | Definitions |\n|---|---|\n| c | d |\n"));
+        let slip = problems_of(&format!("{good}\n| Rule | Definitions |\n|---|---|\n| c | d |\n"));
         assert_eq!(slip.len(), 1);
         assert!(slip[0].contains(":7: the header must be"));
     }
 
     #[test]
     fn rows_without_a_header_are_reported() {
-        let problems =
-            problems_of(&format!("{}\n| a | none: b | none: c | `gone/x` |\n", row("none: a")));
+        let problems = problems_of(&format!(
+            "{}\n| 1.1 a | manual | none: b | none: c | `gone/x` |\n",
+            row("none: a")
+        ));
         assert_eq!(
             problems,
             [format!("{DOCUMENT}:7: a header and a line of dashes must start the table")]

@@ -1,7 +1,7 @@
 //! The checks, on the repository that this package stands in.
 
 use documents::repository::Repository;
-use documents::{edits, links, machine, promises, trace};
+use documents::{edits, links, machine, opcodes, promises, reference, trace};
 use std::env;
 use std::path::Path;
 
@@ -11,6 +11,16 @@ fn must_have_no_problem(check: fn(&Repository) -> Vec<String>) {
     let top = Path::new(&package).join("../..");
     let problems = check(&Repository::read(&top).expect("the repository can be read"));
     assert!(problems.is_empty(), "{} to mend:\n{}", problems.len(), problems.join("\n"));
+}
+
+#[test]
+fn the_reference_has_its_rules_in_order_and_its_examples_hold() {
+    must_have_no_problem(reference::problems);
+}
+
+#[test]
+fn the_opcodes_of_the_reference_are_those_of_the_definition() {
+    must_have_no_problem(opcodes::problems);
 }
 
 #[test]
