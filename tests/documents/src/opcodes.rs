@@ -141,7 +141,7 @@ fn differences_of_row(row: &Opcode, opcode: &Opcode) -> Vec<String> {
         ("name", row.name.clone(), opcode.name.clone()),
         ("number of outputs", row.outputs.to_string(), opcode.outputs.to_string()),
         ("number of inputs", row.inputs.to_string(), opcode.inputs.to_string()),
-        ("sizes", row.sizes.clone(), opcode.sizes.clone()),
+        ("row of sizes", row.sizes.clone(), opcode.sizes.clone()),
     ];
     let different = cells.into_iter().filter(|(_, said, is)| said != is);
     different
@@ -233,7 +233,7 @@ mod tests {
             ("COPY", "MOVE", "the name is MOVE, and COPY in"),
             ("| output", "| none", "the number of outputs is 0, and 1 in"),
             ("source", "source; input1: more", "the number of inputs is 2, and 1 in"),
-            ("kept", "free", "the sizes is free, and kept in"),
+            ("kept", "free", "the row of sizes is free, and kept in"),
             ("input0: source", "input1: source", "'input0: ..' is expected"),
             ("| output", "| one", "neither 'output' nor 'none'"),
             ("| a |", "| |", "has no meaning"),

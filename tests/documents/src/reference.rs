@@ -50,7 +50,7 @@ pub fn problems(repository: &Repository) -> Vec<String> {
     };
     let mut problems = problems_of_numbers(text);
     problems.extend(problems_of_examples(text));
-    problems.extend(problems_of_worked_case(repository, text));
+    problems.extend(problems_of_worked_cases(repository, text));
     problems
 }
 
@@ -109,14 +109,27 @@ fn problems_of_examples(text: &str) -> Vec<String> {
     problems
 }
 
-/// The worked case is the stored one.
-fn problems_of_worked_case(repository: &Repository, text: &str) -> Vec<String> {
+/// A case and the block behind it are what the second program reads and prints, and the first is the stored one.
+fn problems_of_worked_cases(repository: &Repository, text: &str) -> Vec<String> {
     let blocks = fenced_blocks(text);
+    let mut problems = Vec::new();
+    for pair in blocks.windows(2).filter(|pair| is_case(&pair[0])) {
+        if output(pair[0].as_bytes()) != pair[1].as_bytes() {
+            let first = pair[0].lines().next().unwrap_or_default();
+            problems.push(format!("{DOCUMENT}: the case that begins {first} prints another text"));
+        }
+    }
     let same = |path| {
         repository.text(path).is_some_and(|stored| blocks.iter().any(|block| block == stored))
     };
     let lost = WORKED.into_iter().filter(|path| !same(*path));
-    lost.map(|path| format!("{DOCUMENT}: no block is the text of {path}")).collect()
+    problems.extend(lost.map(|path| format!("{DOCUMENT}: no block is the text of {path}")));
+    problems
+}
+
+/// A block with the settings and more lines.
+fn is_case(block: &str) -> bool {
+    block.starts_with("01") && block.lines().count() > 1
 }
 
 #[cfg(test)]
@@ -151,18 +164,21 @@ mod tests {
         ),
     ];
 
+    const CASE: &str = "01000400000001000000000000000000000000\n0202000000005a\n";
+    const PRINTED: &str = "0 0 0 0 0\n0202000000005a\n03020000000000\n";
+
     fn document() -> String {
         let rows = GOOD.map(|(number, line)| format!("| {number} | 2.1 | `{line}` | a |\n"));
         format!(
             "# Top\n\n## 1 One\n\n**1.1** It is.\nMore.\n\n**1.2** It was.\n\n## 2 Two\n\n| Rule | Of |\n|---|---|\n\
-             | **2.1** | a |\n\n```\n{SETTINGS}\n```\n\n| {} |\n|---|---|---|---|\n{}\n```\nin\n```\n\n```\nout\n```\n",
+             | **2.1** | a |\n\n```\n{SETTINGS}\n```\n\n| {} |\n|---|---|---|---|\n{}\n```\n{CASE}```\n\n```\n{PRINTED}```\n",
             EXAMPLES.join(" | "),
             rows.concat()
         )
     }
 
     fn problems_of(text: &str) -> Vec<String> {
-        problems(&Repository::of(&[(DOCUMENT, text), (WORKED[0], "in\n"), (WORKED[1], "out\n")]))
+        problems(&Repository::of(&[(DOCUMENT, text), (WORKED[0], CASE), (WORKED[1], PRINTED)]))
     }
 
     fn only_problem(old: &str, new: &str) -> String {
@@ -207,8 +223,12 @@ mod tests {
 
     #[test]
     fn another_worked_case_is_reported() {
-        assert!(only_problem("```\nin\n", "```\nin in\n").ends_with(WORKED[0]));
-        assert!(only_problem("```\nout\n", "```\nout\n\n").ends_with(WORKED[1]));
+        let problems = |old: &str, new: &str| problems_of(&document().replacen(old, new, 1));
+        let input = problems("005a\n", "005b\n");
+        assert!(input[0].ends_with("000000 prints another text"), "{input:?}");
+        assert!(input[1].ends_with(WORKED[0]), "{input:?}");
+        let output = problems("0 0 0 0 0\n0", "0 0 0 0 1\n0");
+        assert!(output[1].ends_with(WORKED[1]), "{output:?}");
     }
 
     #[test]
