@@ -1,7 +1,8 @@
 -- The frame that a line of a case stands for. The line is without its newline.
 use Prim.Native.Nat.{ℕ, _+_, _-_, _*_, _/_, _%_, max}
-use mathlib.Core.Bool.{Bool, true, false, cond, _&&_}
-use mathlib.Core.List.{List}
+use mathlib.Core.Bool.{Bool, true, false, cond, _&&_, _||_}
+use mathlib.Core.List.{List, [], _∷_}
+use mathlib.Core.Path.{_≡_}
 use lib.ListN.{length}
 use lib.Dec.{leb, eqb}
 use Rattle.word.specs.Sum.{tabulate}
@@ -114,3 +115,39 @@ frameBy kind s =
 -- Any other line, and one with a character that is no digit, is bad.
 unfoldable pub frameOf : (line : List ℕ) → Frame
 frameOf s = cond (leb byteDigits (length s) && allDigits s) (frameBy (numberAt s 0 byteDigits) s) Bad
+
+-- ---- the numbers of a frame
+
+-- What each answer says in numbers: the frame's number, 0 for a bad line, then its values in the order of the line; of 02 and 03 then
+-- how many bytes or labels.
+unfoldable pub numbersOf : Frame → List ℕ
+numbersOf (Opening settings lengths budget) =
+    1 ∷ settings .order ∷ settings .«address_size» ∷ lengths .unique ∷ lengths .register ∷ lengths .ram ∷ budget ∷ []
+numbersOf (Bytes false space offset count) = 2 ∷ space ∷ offset ∷ count ∷ []
+numbersOf (Bytes true space offset count) = 3 ∷ space ∷ offset ∷ count ∷ []
+numbersOf Operation = 4 ∷ []
+numbersOf Bad = 0 ∷ []
+
+-- Whether a frame of a kind can have this many digits.
+unfoldable pub lengthAllowed : (kind digits : ℕ) → Bool
+lengthAllowed kind n =
+    cond (eqb kind 1) (eqb n openingLength)
+    (cond (eqb kind 2 || eqb kind 3)
+    (leb (bytesLength 1) n && leb n (bytesLength mostFrameBytes) && eqb (n % byteDigits) 0)
+    (eqb kind 4 && eqb n operationLength))
+
+-- The values on a line of a kind.
+unfoldable pub valuesOn : (kind : ℕ) → (line : List ℕ) → List ℕ
+valuesOn kind s =
+    cond (eqb kind 1)
+    (numberAt s 2 2 ∷ numberAt s 4 2 ∷ numberAt s 6 8 ∷ numberAt s 14 8 ∷ numberAt s 22 8 ∷ numberAt s 30 8 ∷ [])
+    (cond (eqb kind 2 || eqb kind 3) (numberAt s 2 2 ∷ numberAt s 4 8 ∷ ((length s - 12) / 2) ∷ []) [])
+
+-- The numbers on a line: those of its frame, or 0 alone.
+unfoldable pub numbersOn : (line : List ℕ) → List ℕ
+numbersOn s =
+    cond (leb 2 (length s) && allDigits s && lengthAllowed (numberAt s 0 2) (length s)) (numberAt s 0 2 ∷ valuesOn (numberAt s 0 2) s) (0 ∷ [])
+
+-- The frame of a line says what stands on the line.
+abbrev pub FramesNumbered : Type 0
+FramesNumbered = (line : List ℕ) → numbersOf (frameOf line) ≡ numbersOn line

@@ -12,3 +12,4 @@ pub mod Limits
 pub mod Marked
 pub mod Moves
 pub mod Conditions
+pub mod Pinned

@@ -9,3 +9,4 @@ pub mod Order
 pub mod Limits
 pub mod Marked
 pub mod Conditions
+pub mod Pinned
