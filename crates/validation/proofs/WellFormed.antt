@@ -92,7 +92,7 @@ is-target n i opcode v e b h = within-list n (relativeTarget i (v .offset)) (rw 
 
 -- ---- the law
 
-no-rule-broken : (a : ℕ) (lengths : Lengths) (list : List ℕ) (i : ℕ) → lowestRule a lengths list i ≡ 0 → WellFormed a lengths list i
+pub no-rule-broken : (a : ℕ) (lengths : Lengths) (list : List ℕ) (i : ℕ) → lowestRule a lengths list i ≡ 0 → WellFormed a lengths list i
 unfolding lowestRule anyPlace sizeOrTarget breaksHead
 no-rule-broken a lengths list i e =
     let t1 = passed (breaksHead list i) 21 _ (omega arith) e in
