@@ -80,15 +80,15 @@ module _ (a : ℕ) (lengths : Lengths) (list : List ℕ) (i : ℕ) (w : WellForm
   keeps-head =
       rw (le-leb 1 (opcodeAt list i) (w .opcode .0), le-leb (opcodeAt list i) lastOpcode (w .opcode .1), eq-eqb (spareAt list i) 0 (w .spare))
 
-  keeps-shape : (place : ℕ) → place ≤ mostInputs → breaksShapeAt list i place ≡ false
+  keeps-shape : (place : ℕ) → place < mostInputs + 1 → breaksShapeAt list i place ≡ false
   unfolding breaksShapeAt varnodeAt describedBy
   keeps-shape place h = by (hasPlace (opcodeAt list i) place) refl
     where
       by : (t : Bool) → hasPlace (opcodeAt list i) place ≡ t → breaksShape t (descriptorAt list i place) (offsetAt list i place) ≡ false
-      by true e = keeps-present (descriptorAt list i place) (offsetAt list i place) (w .present place h e)
-      by false e = keeps-omitted (descriptorAt list i place) (offsetAt list i place) (w .omitted place h e)
+      by true e = keeps-present (descriptorAt list i place) (offsetAt list i place) (w .present place (omega arith) e)
+      by false e = keeps-omitted (descriptorAt list i place) (offsetAt list i place) (w .omitted place (omega arith) e)
 
-  keeps-range : (place : ℕ) → place ≤ mostInputs → breaksRange lengths (opcodeAt list i) place (varnodeAt list i place) ≡ false
+  keeps-range : (place : ℕ) → place < mostInputs + 1 → breaksRange lengths (opcodeAt list i) place (varnodeAt list i place) ≡ false
   unfolding breaksRange
   keeps-range place h = by (eqb place 1 && branches (opcodeAt list i)) refl
     where
@@ -96,16 +96,16 @@ module _ (a : ℕ) (lengths : Lengths) (list : List ℕ) (i : ℕ) (w : WellForm
       by true e = refl
       by false e =
           let exempt : place ≡ 1 → branches (opcodeAt list i) ≡ false = λ q. rw (eq-eqb place 1 q) at e in
-          keeps-beyond lengths (varnodeAt list i place) (w .within place h exempt) (w .constant place h exempt)
+          keeps-beyond lengths (varnodeAt list i place) (w .within place (omega arith) exempt) (w .constant place (omega arith) exempt)
 
   keeps-all : lowestRule a lengths list i ≡ 0
   unfolding lowestRule sizeOrTarget anyPlace
   keeps-all =
       rw (
         keeps-head,
-        none-below (breaksShapeAt list i) (mostInputs + 1) (λ place h. keeps-shape place (omega arith)),
+        none-below (breaksShapeAt list i) (mostInputs + 1) keeps-shape,
         none-below (λ place. breaksPlace (opcodeAt list i) place (varnodeAt list i place)) (mostInputs + 1) (λ place h. w .placed place (omega arith)),
-        none-below (λ place. breaksRange lengths (opcodeAt list i) place (varnodeAt list i place)) (mostInputs + 1) (λ place h. keeps-range place (omega arith)),
+        none-below (λ place. breaksRange lengths (opcodeAt list i) place (varnodeAt list i place)) (mostInputs + 1) keeps-range,
         w .sized,
         keeps-target (operationCount list) i (opcodeAt list i) (varnodeAt list i 1) (w .target),
       )
