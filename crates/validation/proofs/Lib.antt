@@ -1,3 +1,4 @@
 pub mod Walk
 pub mod WellFormed
 pub mod Inhabited
+pub mod Exact

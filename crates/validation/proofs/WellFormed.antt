@@ -92,7 +92,7 @@ is-target n i opcode v e b h = within-list n (relativeTarget i (v .offset)) (rw 
 
 -- ---- the law
 
-no-rule-broken : (a : ℕ) (lengths : Lengths) (list : List ℕ) (i : ℕ) → lowestRule a lengths list i ≡ 0 → WellFormed a lengths list i
+pub no-rule-broken : (a : ℕ) (lengths : Lengths) (list : List ℕ) (i : ℕ) → lowestRule a lengths list i ≡ 0 → WellFormed a lengths list i
 unfolding lowestRule anyPlace sizeOrTarget breaksHead
 no-rule-broken a lengths list i e =
     let t1 = passed (breaksHead list i) 21 _ (omega arith) e in
@@ -103,16 +103,16 @@ no-rule-broken a lengths list i e =
     let t6 = passed (breaksTarget (operationCount list) i (opcodeAt list i) (varnodeAt list i 1)) 26 0 (omega arith) (t5 .1) in
     let head = neither (not (leb 1 (opcodeAt list i) && leb (opcodeAt list i) lastOpcode)) _ (t1 .0) in
     let range = both (leb 1 (opcodeAt list i)) (leb (opcodeAt list i) lastOpcode) (not-false _ (head .0)) in
-    let ranged : (place : ℕ) → place ≤ mostInputs → breaksRange lengths (opcodeAt list i) place (varnodeAt list i place) ≡ false =
-    λ place h. none-at (λ p. breaksRange lengths (opcodeAt list i) p (varnodeAt list i p)) (mostInputs + 1) place (omega arith) (t4 .0) in
+    let ranged : (place : ℕ) → place < mostInputs + 1 → breaksRange lengths (opcodeAt list i) place (varnodeAt list i place) ≡ false =
+    λ place h. none-at (λ p. breaksRange lengths (opcodeAt list i) p (varnodeAt list i p)) (mostInputs + 1) place h (t4 .0) in
     record {
       opcode = (leb-true 1 (opcodeAt list i) (range .0), leb-true (opcodeAt list i) lastOpcode (range .1));
       spare = eqb-true (spareAt list i) 0 (not-false _ (head .1));
       present = λ place h. is-present list i place (none-at (breaksShapeAt list i) (mostInputs + 1) place (omega arith) (t2 .0));
       omitted = λ place h. is-absent list i place (none-at (breaksShapeAt list i) (mostInputs + 1) place (omega arith) (t2 .0));
       placed = λ place h. none-at (λ p. breaksPlace (opcodeAt list i) p (varnodeAt list i p)) (mostInputs + 1) place (omega arith) (t3 .0);
-      within = λ place h x. in-space lengths (opcodeAt list i) place (varnodeAt list i place) x (ranged place h);
-      constant = λ place h x. in-constant lengths (opcodeAt list i) place (varnodeAt list i place) x (ranged place h);
+      within = λ place h x. in-space lengths (opcodeAt list i) place (varnodeAt list i place) x (ranged place (omega arith));
+      constant = λ place h x. in-constant lengths (opcodeAt list i) place (varnodeAt list i place) x (ranged place (omega arith));
       sized = t5 .0;
       target = is-target (operationCount list) i (opcodeAt list i) (varnodeAt list i 1) (t6 .0);
     }

@@ -1,3 +1,4 @@
 pub mod Verdict
 pub mod WellFormed
 pub mod Inhabited
+pub mod Exact
