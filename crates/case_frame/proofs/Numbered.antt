@@ -4,7 +4,7 @@ use native.Mathlib.Omega.{arith}
 use borrow.Author.Tests.{ne-eqb}
 use mathlib.Core.Bool.{Bool, true, false, cond, _&&_}
 use mathlib.Core.List.{List, [], _∷_}
-use mathlib.Core.Path.{_≡_, refl, _∙_}
+use mathlib.Core.Path.{_≡_, refl, ap, _∙_}
 use lib.Dec.{leb, eqb}
 use lib.ListN.{length}
 use Rattle.case_hexadecimal.specs.Digits.{byteDigits, allDigits, numberAt}
@@ -34,6 +34,10 @@ two false b x y = refl
 
 pub frames-numbered : FramesNumbered
 unfolding frameOf numbersOn numbersOf
-frames-numbered s = 
+frames-numbered s =
     let digits : Bool = leb byteDigits (length s) && allDigits s in
     chosen digits _ _ _ _ (by-kind (numberAt s 0 byteDigits) s) refl ∙ two digits _ _ _
+
+-- a frame with its numbers
+pub numbered : (s : List ℕ) (r : Frame) → r ≡ frameOf s → (r ≡ frameOf s) × (numbersOf r ≡ numbersOn s)
+numbered s r e = (e, ap numbersOf e ∙ frames-numbered s)

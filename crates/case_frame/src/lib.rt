@@ -4,7 +4,7 @@ ghost use Prim.Native.Nat.{_+_, _≤_};
 ghost use lib.ListN.{length};
 ghost use lib.Seq.{sets};
 ghost use Rattle.operation.specs.Layout.{wordsPerOperation};
-ghost use Rattle.case_frame.specs.Frames.{bytesLength, operationLength, openingOf, bytesFrameOf, operationOf, frameBy, frameOf, bytesOn, wordsOn};
+ghost use Rattle.case_frame.specs.Frames.{bytesLength, operationLength, openingOf, bytesFrameOf, operationOf, frameBy, frameOf, numbersOf, numbersOn, bytesOn, wordsOn};
 use case_hexadecimal::BYTE_DIGITS;
 use case_hexadecimal::NUMBER_DIGITS;
 use case_hexadecimal::WORD_DIGITS;
@@ -74,7 +74,8 @@ pub enum Frame {
 
 // The frame of a line without its newline.
 pub fn frame_of(s: &[u8]) -> Frame
-    ensures { λ r. ⌜ r ≡ frameOf (now (s .entry)) ⌝ }
+    ensures answer { λ r. ⌜ r ≡ frameOf (now (s .entry)) ⌝ }
+    ensures numbers { λ r. ⌜ numbersOf r ≡ numbersOn (now (s .entry)) ⌝ }
 {
     let plain = all_digits(s);
     if both(BYTE_DIGITS <= s.len(), plain) {

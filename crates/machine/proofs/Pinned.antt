@@ -1,8 +1,8 @@
 -- The call layer, field by field.
-use Prim.Native.Nat.{ℕ, zero, suc, _+_, _-_, _≤_, _<_}
+use Prim.Native.Nat.{ℕ, zero, suc, _+_, _-_, _≤_}
 use native.Mathlib.Omega.{arith}
 use mathlib.Core.Path.{_≡_, refl, sym, ap, _∙_}
-use mathlib.Core.Bool.{Bool, true, false, cond, not, _&&_, true≢false}
+use mathlib.Core.Bool.{Bool, true, false, not, _&&_, true≢false}
 use mathlib.Core.List.{List, [], _∷_, _++_}
 use borrow.Author.Tests.{eq-eqb, ne-eqb}
 use lib.Dec.{eqb, ltb, leb}
@@ -21,7 +21,7 @@ use Rattle.machine.specs.Program.{Program, programOf}
 use Rattle.machine.specs.Memory.{Memory, lengthsOf}
 use Rattle.machine.specs.Effect.{Operation, Kind, operationAt}
 use Rattle.machine.specs.Run.{Stop, Decision, Position, Ended, Stepped, endingOf, logging, goTo, access, checked, decided, ended, applyDecision, executeAs, execute, stepped, continued, run}
-use Rattle.machine.specs.Calls.{Outcome, unlabelled, sameLengths, labelsInRange, refusal, logAfter, outcomeOf, starting, called, labelledRun, plainRun}
+use Rattle.machine.specs.Calls.{Outcome, unlabelled, refusal, logAfter, outcomeOf, starting, called, labelledRun, plainRun}
 use Rattle.machine.specs.Pinned.{Answers, Refused, Pinned}
 use Rattle.machine.proofs.Cases.{either}
 use Rattle.machine.proofs.Plain.{nothing-secret, nothing-written}

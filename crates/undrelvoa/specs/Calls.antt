@@ -93,7 +93,7 @@ plainLeftC c = plainOutcome (reportIn (c .report′)) (c .memory′) (c .log′)
 -- Noninterference of C calls: the labelled calls show the same; where the ending isn't LEAK (31), a plain call that is lent the same leaves
 -- what the labelled call left.
 abbrev pub NoninterferenceC : Type 0
-NoninterferenceC = {order addressSize : ℕ} {list : List ℕ} {start budget : ℕ} (first second : LabelledCallC order addressSize list start budget)
+NoninterferenceC = (order addressSize : ℕ) (list : List ℕ) (start budget : ℕ) (first second : LabelledCallC order addressSize list start budget)
     (firstPlain secondPlain : PlainCallC order addressSize list start budget)
     → first .labels ≡ second .labels → LowEquivalent (first .labels) (first .memory) (second .memory) → length (first .log) ≡ length (second .log)
     → firstPlain .memory ≡ first .memory → length (firstPlain .log) ≡ length (first .log)
@@ -104,7 +104,7 @@ NoninterferenceC = {order addressSize : ℕ} {list : List ℕ} {start budget : �
 
 -- Resuming by C calls: one that ended with BUDGET (2), one that resumes it, and one with the two budgets added.
 abbrev pub LabelledResumesC : Type 0
-LabelledResumesC = {order addressSize : ℕ} {list : List ℕ} {start budget further : ℕ} (first : LabelledCallC order addressSize list start budget)
+LabelledResumesC = (order addressSize : ℕ) (list : List ℕ) (start budget further : ℕ) (first : LabelledCallC order addressSize list start budget)
     (second : LabelledCallC order addressSize list (leftC first .report .index) further) (whole : LabelledCallC order addressSize list start (budget + further))
     → leftC first .report .ending ≡ 2 → second .memory ≡ first .memory′ → second .labels ≡ first .labels′
     → second .log ≡ drop (leftC first .report .logged) (first .log′)
@@ -113,7 +113,7 @@ LabelledResumesC = {order addressSize : ℕ} {list : List ℕ} {start budget fur
 
 -- The same of the plain run.
 abbrev pub PlainResumesC : Type 0
-PlainResumesC = {order addressSize : ℕ} {list : List ℕ} {start budget further : ℕ} (first : PlainCallC order addressSize list start budget)
+PlainResumesC = (order addressSize : ℕ) (list : List ℕ) (start budget further : ℕ) (first : PlainCallC order addressSize list start budget)
     (second : PlainCallC order addressSize list (plainLeftC first .report .index) further) (whole : PlainCallC order addressSize list start (budget + further))
     → plainLeftC first .report .ending ≡ 2 → second .memory ≡ first .memory′ → second .log ≡ drop (plainLeftC first .report .logged) (first .log′)
     → whole .memory ≡ first .memory → whole .log ≡ first .log

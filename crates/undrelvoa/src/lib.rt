@@ -10,10 +10,9 @@ ghost use lib.Seq.{sets};
 ghost use Rattle.word.specs.Word.{part, valueOf, bytesOf};
 ghost use Rattle.arithmetic.specs.Result.{result};
 ghost use Rattle.machine.specs.Memory.{spaces};
-ghost use Rattle.machine.specs.Calls.{plainRun, plainStep, labelledRun, labelledStep};
-ghost use Rattle.operation.specs.Numbers.{reportNumbers};
 ghost use Rattle.undrelvoa_faults.specs.Faults.{valueFault, gatherFault, scatterFault};
-ghost use Rattle.undrelvoa.specs.Buffers.{roomFault, settingsOf, plainBuffers, labelledBuffers, after};
+ghost use Rattle.undrelvoa.specs.Buffers.{roomFault};
+ghost use Rattle.undrelvoa.specs.Calls.{AnswerPromise, BuffersPromise, LabelledBuffersPromise};
 ghost use Rattle.undrelvoa.specs.Answers.{verdictWords, shownLength, placeLength, placeWords};
 use operation::layout::Lengths;
 use operation::layout::Settings;
@@ -96,7 +95,7 @@ pub extern "C" fn undrelvoa_validate(
     list: &[u64],
     report: &mut [u64],
 ) -> u64
-    ensures answer { λ r. ⌜ r ≡ roomFault reportNumbers (length (now (report .entry))) ⌝ }
+    ensures answer { λ r. ⌜ AnswerPromise (now (report .entry)) r ⌝ }
     ensures buffer { λ r. ⌜ now (report .exit) ≡ cond (eqb r 0) (sets (now (report .entry)) 0 (verdictWords order «address_size» unique register ram (now (list .entry)))) (now (report .entry)) ⌝ }
 {
     if report.len() < REPORT_NUMBERS {
@@ -129,11 +128,10 @@ pub extern "C" fn undrelvoa_run(
     log: &mut [u64],
     report: &mut [u64],
 ) -> u64
-    ensures answer { λ r. ⌜ r ≡ roomFault reportNumbers (length (now (report .entry))) ⌝ }
-    ensures buffers { λ r. ⌜ plainBuffers (spaces (now (unique .exit)) (now (register .exit)) (now (ram .exit))) (now (log .exit)) (now (report .exit))
-        ≡ cond (eqb r 0)
-        (after (now (report .entry)) (plainRun (settingsOf order «address_size») (now (list .entry)) start budget (now (log .entry)) (spaces (now (unique .entry)) (now (register .entry)) (now (ram .entry)))))
-        (plainBuffers (spaces (now (unique .entry)) (now (register .entry)) (now (ram .entry))) (now (log .entry)) (now (report .entry))) ⌝ }
+    ensures answer { λ r. ⌜ AnswerPromise (now (report .entry)) r ⌝ }
+    ensures buffers { λ r. ⌜ BuffersPromise order «address_size» (now (list .entry)) start budget
+        (spaces (now (unique .entry)) (now (register .entry)) (now (ram .entry))) (now (log .entry)) (now (report .entry))
+        (spaces (now (unique .exit)) (now (register .exit)) (now (ram .exit))) (now (log .exit)) (now (report .exit)) r ⌝ }
 {
     if report.len() < REPORT_NUMBERS {
         return 11;
@@ -159,11 +157,10 @@ pub extern "C" fn undrelvoa_step(
     log: &mut [u64],
     report: &mut [u64],
 ) -> u64
-    ensures answer { λ r. ⌜ r ≡ roomFault reportNumbers (length (now (report .entry))) ⌝ }
-    ensures buffers { λ r. ⌜ plainBuffers (spaces (now (unique .exit)) (now (register .exit)) (now (ram .exit))) (now (log .exit)) (now (report .exit))
-        ≡ cond (eqb r 0)
-        (after (now (report .entry)) (plainStep (settingsOf order «address_size») (now (list .entry)) start (now (log .entry)) (spaces (now (unique .entry)) (now (register .entry)) (now (ram .entry)))))
-        (plainBuffers (spaces (now (unique .entry)) (now (register .entry)) (now (ram .entry))) (now (log .entry)) (now (report .entry))) ⌝ }
+    ensures answer { λ r. ⌜ AnswerPromise (now (report .entry)) r ⌝ }
+    ensures buffers { λ r. ⌜ BuffersPromise order «address_size» (now (list .entry)) start 1
+        (spaces (now (unique .entry)) (now (register .entry)) (now (ram .entry))) (now (log .entry)) (now (report .entry))
+        (spaces (now (unique .exit)) (now (register .exit)) (now (ram .exit))) (now (log .exit)) (now (report .exit)) r ⌝ }
 {
     if report.len() < REPORT_NUMBERS {
         return 11;
@@ -193,15 +190,14 @@ pub extern "C" fn undrelvoa_labelled_run(
     log: &mut [u64],
     report: &mut [u64],
 ) -> u64
-    ensures answer { λ r. ⌜ r ≡ roomFault reportNumbers (length (now (report .entry))) ⌝ }
-    ensures buffers { λ r. ⌜ labelledBuffers (spaces (now (unique .exit)) (now (register .exit)) (now (ram .exit)))
-        (spaces (now («unique_labels» .exit)) (now («register_labels» .exit)) (now («ram_labels» .exit))) (now (log .exit)) (now (report .exit))
-        ≡ cond (eqb r 0)
-        (after (now (report .entry)) (labelledRun (settingsOf order «address_size») (now (list .entry)) start budget (now (log .entry))
+    ensures answer { λ r. ⌜ AnswerPromise (now (report .entry)) r ⌝ }
+    ensures buffers { λ r. ⌜ LabelledBuffersPromise order «address_size» (now (list .entry)) start budget
+        (spaces (now (unique .entry)) (now (register .entry)) (now (ram .entry)))
         (spaces (now («unique_labels» .entry)) (now («register_labels» .entry)) (now («ram_labels» .entry)))
-        (spaces (now (unique .entry)) (now (register .entry)) (now (ram .entry)))))
-        (labelledBuffers (spaces (now (unique .entry)) (now (register .entry)) (now (ram .entry)))
-        (spaces (now («unique_labels» .entry)) (now («register_labels» .entry)) (now («ram_labels» .entry))) (now (log .entry)) (now (report .entry))) ⌝ }
+        (now (log .entry)) (now (report .entry))
+        (spaces (now (unique .exit)) (now (register .exit)) (now (ram .exit)))
+        (spaces (now («unique_labels» .exit)) (now («register_labels» .exit)) (now («ram_labels» .exit)))
+        (now (log .exit)) (now (report .exit)) r ⌝ }
 {
     if report.len() < REPORT_NUMBERS {
         return 11;
@@ -242,15 +238,14 @@ pub extern "C" fn undrelvoa_labelled_step(
     log: &mut [u64],
     report: &mut [u64],
 ) -> u64
-    ensures answer { λ r. ⌜ r ≡ roomFault reportNumbers (length (now (report .entry))) ⌝ }
-    ensures buffers { λ r. ⌜ labelledBuffers (spaces (now (unique .exit)) (now (register .exit)) (now (ram .exit)))
-        (spaces (now («unique_labels» .exit)) (now («register_labels» .exit)) (now («ram_labels» .exit))) (now (log .exit)) (now (report .exit))
-        ≡ cond (eqb r 0)
-        (after (now (report .entry)) (labelledStep (settingsOf order «address_size») (now (list .entry)) start (now (log .entry))
+    ensures answer { λ r. ⌜ AnswerPromise (now (report .entry)) r ⌝ }
+    ensures buffers { λ r. ⌜ LabelledBuffersPromise order «address_size» (now (list .entry)) start 1
+        (spaces (now (unique .entry)) (now (register .entry)) (now (ram .entry)))
         (spaces (now («unique_labels» .entry)) (now («register_labels» .entry)) (now («ram_labels» .entry)))
-        (spaces (now (unique .entry)) (now (register .entry)) (now (ram .entry)))))
-        (labelledBuffers (spaces (now (unique .entry)) (now (register .entry)) (now (ram .entry)))
-        (spaces (now («unique_labels» .entry)) (now («register_labels» .entry)) (now («ram_labels» .entry))) (now (log .entry)) (now (report .entry))) ⌝ }
+        (now (log .entry)) (now (report .entry))
+        (spaces (now (unique .exit)) (now (register .exit)) (now (ram .exit)))
+        (spaces (now («unique_labels» .exit)) (now («register_labels» .exit)) (now («ram_labels» .exit)))
+        (now (log .exit)) (now (report .exit)) r ⌝ }
 {
     if report.len() < REPORT_NUMBERS {
         return 11;

@@ -9,13 +9,13 @@ returns-4 : tie.Need-returns-4
 unfolding lineAdded
 returns-4 c =
     let start = c .before .before .before .before in
-    fed-bad _ _ (c .before .before .frame-of .ensures) _ _ _ _ (start .before .before .before .pre) (rw (c .enum-told .given .1))
+    fed-bad _ _ (c .before .before .frame-of .ensures .0) _ _ _ _ (start .before .before .before .pre) (rw (c .enum-told .given .1))
 
 returns-7 : tie.Need-returns-7
 unfolding lineAdded
 returns-7 c =
     let start = c .before .before .before .before in
-    fed-bad _ _ (c .before .before .frame-of .ensures) _ _ _ _ (start .before .before .before .pre) (rw (c .enum-told3 .given .1))
+    fed-bad _ _ (c .before .before .frame-of .ensures .0) _ _ _ _ (start .before .before .before .pre) (rw (c .enum-told3 .given .1))
 
 place-of-requires : tie.Need-place-of-requires
 place-of-requires c κs =
@@ -23,7 +23,7 @@ place-of-requires c κs =
     let at-frame = at-known .before .before in
     let at-slices = at-frame .before .before .before .before in
     let start = at-slices .before in
-    placed (start .args .number) (start .args .s .now) (at-frame .frame-of .ensures) _ _ _ _ (start .pre) _ _ _ _ (at-known .of-labels .given .1)
+    placed (start .args .number) (start .args .s .now) (at-frame .frame-of .ensures .0) _ _ _ _ (start .pre) _ _ _ _ (at-known .of-labels .given .1)
     (c .before .in-space .ensures) (c .if1 .left)
 
 store-bytes-requires : tie.Need-store-bytes-requires
@@ -33,7 +33,7 @@ store-bytes-requires c κs =
     let at-frame = at-known .before .before in
     let at-slices = at-frame .before .before .before .before in
     let start = at-slices .before in
-    stores (start .args .number) (start .args .s .now) (at-frame .frame-of .ensures) _ _ _ _ (start .pre) _ _ _ _ (at-known .of-labels .given .1)
+    stores (start .args .number) (start .args .s .now) (at-frame .frame-of .ensures .0) _ _ _ _ (start .pre) _ _ _ _ (at-known .of-labels .given .1)
     (at-test .before .in-space .ensures) (at-test .if1 .left) (c .before .before .place-of .ensures) (start .pre .labelRoom)
 
 returns-2 : tie.Need-returns-2
@@ -46,7 +46,7 @@ store-bytes-requires-2 c κs =
     let at-frame = at-known .before .before in
     let at-slices = at-frame .before .before .before .before in
     let start = at-slices .before in
-    stores (start .args .number) (start .args .s .now) (at-frame .frame-of .ensures) _ _ _ _ (start .pre) _ _ _ _ (at-known .of-labels .given .1)
+    stores (start .args .number) (start .args .s .now) (at-frame .frame-of .ensures .0) _ _ _ _ (start .pre) _ _ _ _ (at-known .of-labels .given .1)
     (at-test .before .in-space .ensures) (at-test .if1 .left) (c .before .before .place-of .ensures) (start .pre .memoryRoom)
 
 store-words-requires : tie.Need-store-words-requires
@@ -55,7 +55,7 @@ store-words-requires c κs =
     let at-frame = at-told .before .before in
     let at-slices = at-frame .before .before .before .before in
     let start = at-slices .before in
-    stores-words (start .args .number) (start .args .s .now) (at-frame .frame-of .ensures) _ _ _ _ (start .pre) (at-told .enum-told2 .given .1)
+    stores-words (start .args .number) (start .args .s .now) (at-frame .frame-of .ensures .0) _ _ _ _ (start .pre) (at-told .enum-told2 .given .1)
     (c .before .before .if3 .left)
 
 returns : tie.Need-returns

@@ -10,26 +10,26 @@ returns : tie.Need-returns
 returns c =
     let at-match = c .before .before .before .before in
     let at-frame-of = at-match .before in
-    λ m ls ws h. open-case _ _ (at-frame-of .frame-of .ensures) m ls ws h _ _ _ (c .before .before .before .settings .given .1) (sym (c .before .lengths-fit .ensures) ∙ c .if1 .taken)
+    λ m ls ws h. open-case _ _ (at-frame-of .frame-of .ensures .0) m ls ws h _ _ _ (c .before .before .before .settings .given .1) (sym (c .before .lengths-fit .ensures) ∙ c .if1 .taken)
 
 returns-2 : tie.Need-returns-2
 unfolding opened
 returns-2 c =
     let at-match = c .before .before .before .before in
     let at-frame-of = at-match .before in
-    λ m ls ws h. open-bad _ _ (at-frame-of .frame-of .ensures) m ls ws h (rw (c .before .before .before .settings .given .1, sym (c .before .lengths-fit .ensures) ∙ c .if1 .left))
+    λ m ls ws h. open-bad _ _ (at-frame-of .frame-of .ensures .0) m ls ws h (rw (c .before .before .before .settings .given .1, sym (c .before .lengths-fit .ensures) ∙ c .if1 .left))
 
 returns-3 : tie.Need-returns-3
 unfolding opened
-returns-3 c = λ m ls ws h. open-bad _ _ (c .before .before .frame-of .ensures) m ls ws h (rw (c .enum-told .given .1))
+returns-3 c = λ m ls ws h. open-bad _ _ (c .before .before .frame-of .ensures .0) m ls ws h (rw (c .enum-told .given .1))
 
 returns-4 : tie.Need-returns-4
 unfolding opened
-returns-4 c = λ m ls ws h. open-bad _ _ (c .before .before .frame-of .ensures) m ls ws h (rw (c .enum-told2 .given .1))
+returns-4 c = λ m ls ws h. open-bad _ _ (c .before .before .frame-of .ensures .0) m ls ws h (rw (c .enum-told2 .given .1))
 
 returns-5 : tie.Need-returns-5
 unfolding opened
-returns-5 c = λ m ls ws h. open-bad _ _ (c .before .before .frame-of .ensures) m ls ws h (rw (c .enum-told3 .given .1))
+returns-5 c = λ m ls ws h. open-bad _ _ (c .before .before .frame-of .ensures .0) m ls ws h (rw (c .enum-told3 .given .1))
 
 pub open-spec : {M : Type 1} → statement M
 open-spec =
