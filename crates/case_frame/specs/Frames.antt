@@ -136,7 +136,7 @@ lengthAllowed kind n =
     (leb (bytesLength 1) n && leb n (bytesLength mostFrameBytes) && eqb (n % byteDigits) 0)
     (eqb kind 4 && eqb n operationLength))
 
--- The values on a line of a kind.
+-- The values on a line of a kind. Columns and digits are written as numbers here, so that a slip in those named above shows.
 unfoldable pub valuesOn : (kind : ℕ) → (line : List ℕ) → List ℕ
 valuesOn kind s =
     cond (eqb kind 1)

@@ -1,4 +1,4 @@
--- Demand 3 and the resume law hold of the calls.
+-- Noninterference and the resume law hold of the calls.
 use Prim.Native.Nat.{ℕ, _+_}
 use mathlib.Core.List.{List}
 use mathlib.Core.Path.{_≡_, refl, sym, ap, subst, _∙_}

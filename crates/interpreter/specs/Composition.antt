@@ -1,4 +1,4 @@
--- Demand 3 and the resume law of the calls themselves: what several calls promise together, by their promises alone.
+-- Noninterference and the resume law of the calls themselves: what several calls promise together, by their promises alone.
 use Prim.Native.Nat.{ℕ, _+_}
 use mathlib.Core.List.{List}
 use mathlib.Core.Path.{_≡_}
@@ -69,7 +69,7 @@ pub record NoninterferentCalls (c : LowEquivalentCalls) : Type 0 where
   pub firstPlain : Labelled (c .first .labels) (c .first .memory) → (c .first .report .ending ≡ 31 → ⊥) → PlainAlike (left (c .first)) (plainLeft (c .firstPlain))
   pub secondPlain : Labelled (c .second .labels) (c .second .memory) → (c .second .report .ending ≡ 31 → ⊥) → PlainAlike (left (c .second)) (plainLeft (c .secondPlain))
 
--- Demand 3, of every four such calls.
+-- Of every four such calls.
 abbrev pub CallsNoninterfere : Type 0
 CallsNoninterfere = (c : LowEquivalentCalls) → NoninterferentCalls c
 

@@ -1,4 +1,4 @@
--- Demand 3 as one claim.
+-- Noninterference as one claim.
 use Prim.Native.Nat.{ℕ}
 use mathlib.Core.Path.{_≡_, refl, sym, ap, _∙_}
 use mathlib.Core.Bool.{Bool, true, false, cond, _&&_}

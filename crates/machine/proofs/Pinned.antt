@@ -21,8 +21,8 @@ use Rattle.machine.specs.Program.{Program, programOf}
 use Rattle.machine.specs.Memory.{Memory, lengthsOf}
 use Rattle.machine.specs.Effect.{Operation, Kind, operationAt}
 use Rattle.machine.specs.Run.{Stop, Decision, Position, Ended, Stepped, endingOf, logging, goTo, access, checked, decided, ended, applyDecision, executeAs, execute, stepped, continued, run}
-use Rattle.machine.specs.Calls.{Outcome, unlabelled, refusal, logAfter, outcomeOf, starting, called, labelledRun, plainRun}
-use Rattle.machine.specs.Pinned.{Answers, Refused, Pinned}
+use Rattle.machine.specs.Calls.{Outcome, unlabelled, labelledOutcome, refusal, logAfter, outcomeOf, starting, called, labelledRun, plainRun}
+use Rattle.machine.specs.Pinned.{Answers, Pinned}
 use Rattle.machine.proofs.Cases.{either}
 use Rattle.machine.proofs.Plain.{nothing-secret, nothing-written}
 use Rattle.machine.proofs.Limits.{run-counts}
@@ -57,9 +57,9 @@ module _ (settings : Settings) (list : List ℕ) (start budget : ℕ) (log : Lis
         lent = λ k h. lent-word words log k h;
       })
 
-  called-refused : (refused .ending ≡ 0 → ⊥) → Refused log labels m refused (called settings list start budget log labels m refused)
+  called-refused : (refused .ending ≡ 0 → ⊥) → called settings list start budget log labels m refused ≡ labelledOutcome refused m labels log
   unfolding called
-  called-refused n = rw (ne-eqb (refused .ending) 0 n) (record { report = refl; memory = refl; labels = refl; log = refl })
+  called-refused n = rw (ne-eqb (refused .ending) 0 n) refl
 
 -- ---- the numbers of the rules
 
@@ -112,6 +112,7 @@ no-index settings lengths list start fitting valid =
 
 -- ---- a plain run has no LEAK
 
+-- another number is not LEAK's
 not-31 : (n : ℕ) → eqb n 31 ≡ false → n ≡ 31 → ⊥
 not-31 n f h = true≢false (sym (eq-eqb n 31 h) ∙ f)
 

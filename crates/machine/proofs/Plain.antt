@@ -1,4 +1,4 @@
--- Demand 3, second half: where the labelled run does not end with LEAK, the plain run is the same run.
+-- Noninterference, second half: where the labelled run does not end with LEAK, the plain run is the same run.
 use Prim.Native.Nat.{ℕ, zero, suc}
 use mathlib.Core.Path.{_≡_, refl}
 use mathlib.Core.Bool.{Bool, true, false}

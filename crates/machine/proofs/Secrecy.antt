@@ -1,4 +1,4 @@
--- Demand 3, first half: two low-equivalent memories have runs that cannot be told apart.
+-- Noninterference, first half: two low-equivalent memories have runs that cannot be told apart.
 use Prim.Native.Nat.{ℕ, zero, suc}
 use native.Mathlib.Omega.{arith}
 use mathlib.Core.Path.{_≡_, refl, sym, ap₂, _∙_}

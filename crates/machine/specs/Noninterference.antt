@@ -1,4 +1,4 @@
--- Demand 3: what a labelled run shows does not depend on secret bytes, and where it does not stop with LEAK it is the plain run.
+-- Noninterference: what a labelled run shows does not depend on secret bytes, and where it does not stop with LEAK it is the plain run.
 use Prim.Native.Nat.{ℕ, _<_}
 use mathlib.Core.Bool.{true}
 use mathlib.Core.List.{List}
@@ -46,7 +46,7 @@ pub record NothingShown (settings : Settings) (list : List ℕ) (start budget : 
       → (plainLog : List ℕ) → length plainLog ≡ length log′
       → PlainAlike (labelledRun settings list start budget log′ labels second) (plainRun settings list start budget plainLog second)
 
--- Demand 3, whatever the list, the settings, the start, the budget, the labels, and the log buffers of equal lengths.
+-- Of every call, whatever the list, the settings, the start, the budget, the labels, and the log buffers of equal lengths.
 abbrev pub Noninterference : Type 0
 Noninterference = (settings : Settings) (list : List ℕ) (start budget : ℕ) (log log′ : List ℕ) → length log ≡ length log′
     → (labels first second : Memory) → LowEquivalent labels first second

@@ -11,9 +11,9 @@ use Rattle.operation.specs.declared.report.Report.{Report}
 use Rattle.machine.specs.Program.{programOf}
 use Rattle.machine.specs.Memory.{Memory, lengthsOf}
 use Rattle.machine.specs.Run.{Ended, run}
-use Rattle.machine.specs.Calls.{Outcome, unlabelled, sameLengths, labelsInRange, refusal, starting, labelledRun, plainRun}
+use Rattle.machine.specs.Calls.{Outcome, unlabelled, plainOutcome, labelledOutcome, sameLengths, labelsInRange, refusal, starting, labelledRun, plainRun}
 
--- The refusal of a labelled run.
+-- The refusal of a labelled run, told here again: so the labels that a run looks at are part of what is stated.
 abbrev pub labelledRefusalOf : Settings → (list : List ℕ) → (start : ℕ) → (labels memory : Memory) → Report
 labelledRefusalOf settings list start labels m =
     refusal settings (lengthsOf m) list start (sameLengths (lengthsOf labels) (lengthsOf m)) (labelsInRange labels)
@@ -34,13 +34,6 @@ pub record Answers (log : List ℕ) (r : Ended) (o : Outcome) : Type 0 where
   pub words : (k : ℕ) → k < length (r .position .log) → getD (o .log) k 0 ≡ getD (r .position .log) k 0
   pub lent : (k : ℕ) → length (r .position .log) ≤ k → getD (o .log) k 0 ≡ getD log k 0
 
--- What a refused call leaves: the refusal, and all as lent.
-pub record Refused (lentLog : List ℕ) (lentLabels m : Memory) (refused : Report) (o : Outcome) : Type 0 where
-  pub report : o .report ≡ refused
-  pub memory : o .memory ≡ m
-  pub labels : o .labels ≡ lentLabels
-  pub log : o .log ≡ lentLog
-
 -- All of these, of both runs.
 pub record Pinned : Type 0 where
   pub labelledAccepted : (settings : Settings) (list : List ℕ) (start budget : ℕ) (log : List ℕ) (labels m : Memory)
@@ -49,12 +42,13 @@ pub record Pinned : Type 0 where
   pub plainAccepted : (settings : Settings) (list : List ℕ) (start budget : ℕ) (log : List ℕ) (m : Memory)
       → plainRefusalOf settings list start m .ending ≡ 0
       → Answers log (run (programOf settings list) budget (starting start (length log)) unlabelled m) (plainRun settings list start budget log m)
+  -- A refused call answers its refusal and leaves all as lent.
   pub labelledRefused : (settings : Settings) (list : List ℕ) (start budget : ℕ) (log : List ℕ) (labels m : Memory)
       → (labelledRefusalOf settings list start labels m .ending ≡ 0 → ⊥)
-      → Refused log labels m (labelledRefusalOf settings list start labels m) (labelledRun settings list start budget log labels m)
+      → labelledRun settings list start budget log labels m ≡ labelledOutcome (labelledRefusalOf settings list start labels m) m labels log
   pub plainRefused : (settings : Settings) (list : List ℕ) (start budget : ℕ) (log : List ℕ) (m : Memory)
       → (plainRefusalOf settings list start m .ending ≡ 0 → ⊥)
-      → Refused log unlabelled m (plainRefusalOf settings list start m) (plainRun settings list start budget log m)
+      → plainRun settings list start budget log m ≡ plainOutcome (plainRefusalOf settings list start m) m log
   -- The index is 0 with 10, 11, 12 and 27.
   pub noIndex : (settings : Settings) (lengths : Lengths) (list : List ℕ) (start : ℕ) (fitting valid : Bool)
       → member (refusal settings lengths list start fitting valid .ending) (10 ∷ 11 ∷ 12 ∷ 27 ∷ []) ≡ true

@@ -34,7 +34,8 @@ LabelledBuffersPromise order addressSize list start budget m labels log report m
     labelledBuffers m′ labels′ log′ report′
     ≡ cond (eqb answer 0) (after report (labelledRun (settingsOf order addressSize) list start budget log labels m)) (labelledBuffers m labels log report)
 
--- A C call of the plain run with room for its report: the buffers lent, the same when it returns, its answer, and its promise.
+-- A C call of the plain run with room for its report: the buffers lent, the same when it returns, its answer, and its promise. A step is
+-- such a call with budget 1.
 pub record PlainCallC (order addressSize : ℕ) (list : List ℕ) (start budget : ℕ) : Type 0 where
   pub memory : Memory
   pub log : List ℕ
