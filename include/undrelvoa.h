@@ -1,24 +1,24 @@
-/* The C interface of Undrelvoa, the proved p-code interpreter.
+/* The C interface of Undrelvoa, the proved p-code interpreter. docs/REFERENCE.md has every rule; examples/
+ * has programs in C and in Rust.
  *
- * Link target/staticlib/libundrelvoa.a, which `rt staticlib undrelvoa` makes.
+ * Link target/staticlib/libundrelvoa.a, which `rt staticlib undrelvoa` makes, for x86-64 Linux (its C calling
+ * convention). It needs no other library, the C library not either.
  *
- * Every function takes every number; of buffers it asks what stands at the end of this comment. It
- * answers 0 when it has done its work, or else the number of the fault it found; where several faults
- * are present, the lowest number. A call that answers another number than 0 has changed no buffer.
+ * Calls. Every function takes every number; of buffers it asks what the next paragraph says. It answers an
+ * undrelvoa_answer: 0 when it has done its work, else what is wrong with the call itself, and then it has
+ * changed no buffer. undrelvoa_validate, the runs and the steps write how they ended, an undrelvoa_ending,
+ * into a report: they answer 0 also where they refuse to run.
  *
- *   10 SETTING  a byte order that is neither 0 nor 1
- *   11 LENGTH   a lent buffer that is too short to hold the result
- *   21 HEAD     an opcode out of range
- *   22 SHAPE    a size that is not 1 to 8, an operand where the opcode has none, or none where it has one
- *   24 RANGE    bytes beyond the end of the buffer, or a value that is not below 256^size
- *   25 SIZE     sizes that the operation does not allow together
- *   33 ZERO     a divisor of 0
+ * Buffers. A buffer is a pointer and the number of its elements. With 0 elements the pointer may be NULL.
+ * Else it points to that many elements and is aligned for their type, as C asks: 8 bytes for uint64_t, any
+ * address for uint8_t. A buffer that a call writes overlaps no other buffer of that call; those that it only
+ * reads (const) may overlap each other.
  *
- * undrelvoa_validate, the runs and the steps put their ending, an undrelvoa_ending, into a report, and
- * answer 0 when they have done so, or 11 for a report that is too short.
+ * Threads. The library has no state: nothing is kept from call to call, no memory is allocated, no function
+ * is called. Any thread may call, at any time, also from a signal handler; but while a call runs, nobody
+ * else writes its buffers, nor reads those that it writes.
  *
- * A buffer is a pointer and the number of its elements. The pointer of an empty buffer is not read,
- * but must not be NULL. Buffers of one call must not overlap.
+ * Secrets. After a run the spaces hold secret bytes in clear, as they did before it; the labels say which.
  */
 #ifndef UNDRELVOA_H
 #define UNDRELVOA_H
@@ -29,6 +29,66 @@
 #ifdef __cplusplus
 extern "C" {
 #endif
+
+/* The version of this header and of the library that it is for: that of the file VERSION. The first number
+ * grows where a call changes, so that a program has to be changed or compiled anew. */
+#define UNDRELVOA_VERSION "2.0.0"
+#define UNDRELVOA_VERSION_MAJOR 2
+#define UNDRELVOA_VERSION_MINOR 0
+#define UNDRELVOA_VERSION_PATCH 0
+
+/* Limits. A list, space or size beyond them is refused. */
+#define UNDRELVOA_MAX_OPERATIONS 4096   /* operations of a list */
+#define UNDRELVOA_MAX_SPACE_BYTES 65536 /* bytes of a space */
+#define UNDRELVOA_MAX_SIZE 8            /* bytes of a varnode, and of an address */
+
+/* The words of settings. Their number is exact: a later version may have more. */
+#define UNDRELVOA_SETTINGS_ORDER 0        /* byte order: UNDRELVOA_LITTLE or UNDRELVOA_BIG */
+#define UNDRELVOA_SETTINGS_ADDRESS_SIZE 1 /* bytes of an address, 1 to 8 */
+#define UNDRELVOA_SETTINGS_WORDS 2
+
+#define UNDRELVOA_LITTLE 0
+#define UNDRELVOA_BIG 1
+
+/* The words of a report. */
+#define UNDRELVOA_REPORT_ENDING 0   /* an undrelvoa_ending */
+#define UNDRELVOA_REPORT_INDEX 1    /* an operation, which one the ending says */
+#define UNDRELVOA_REPORT_EXECUTED 2 /* operations executed */
+#define UNDRELVOA_REPORT_LOGGED 3   /* log words written */
+#define UNDRELVOA_REPORT_VALUE 4    /* the destination of an EXIT */
+#define UNDRELVOA_REPORT_WORDS 5
+
+/* The words of a place. */
+#define UNDRELVOA_PLACE_SPACE 0
+#define UNDRELVOA_PLACE_OFFSET 1
+#define UNDRELVOA_PLACE_BYTES 2
+#define UNDRELVOA_PLACE_WORDS 3
+
+/* The labels of a byte. */
+#define UNDRELVOA_PUBLIC 0
+#define UNDRELVOA_SECRET 1
+
+/* A log word: the index of the operation that wrote it, and what it wrote: the byte offset of LOAD and
+ * STORE, or 1 for a CBRANCH taken and 0 for one not taken. */
+#define UNDRELVOA_LOG_INDEX(word) ((uint64_t)(word) >> 32)
+#define UNDRELVOA_LOG_OFFSET(word) ((uint64_t)(word) & 0xffffffffu)
+
+/* An operation is five words: its head, then the offsets of output, input0, input1 and input2. Where an
+ * operation has no such varnode, its descriptor is UNDRELVOA_ABSENT and its offset 0. */
+#define UNDRELVOA_OPERATION_WORDS 5
+#define UNDRELVOA_ABSENT 0
+#define UNDRELVOA_DESCRIPTOR(space, size) ((uint64_t)(space) * 16 + (uint64_t)(size))
+#define UNDRELVOA_OPERATION_HEAD(opcode, output, input0, input1, input2)                               \
+    ((uint64_t)(opcode) | (uint64_t)(output) << 8 | (uint64_t)(input0) << 16 | (uint64_t)(input1) << 24 \
+     | (uint64_t)(input2) << 32)
+
+/* The address spaces. A varnode of the constant space has no bytes: its value is its offset. */
+enum undrelvoa_space {
+    UNDRELVOA_SPACE_CONSTANT = 1,
+    UNDRELVOA_SPACE_UNIQUE = 2,
+    UNDRELVOA_SPACE_REGISTER = 3,
+    UNDRELVOA_SPACE_RAM = 4
+};
 
 /* The opcodes. Those from UNDRELVOA_PIECE on have a value. */
 enum undrelvoa_opcode {
@@ -76,9 +136,28 @@ enum undrelvoa_opcode {
     UNDRELVOA_BOOL_OR = 42
 };
 
-/* How a run ended, the first number of a report; the second is the index that stands here. A value other
- * than 0 comes with EXIT alone. Refusals come before anything runs, in the order 10, 11, 12, 21 to 26, 27;
- * nothing is executed or written then. */
+/* What a call answers: whether the call itself could be served. With several faults, the lowest number.
+ * Two numbers are endings too, and mean something else there:
+ *   11  UNDRELVOA_ANSWER_LENGTH: settings, report, place or result have the wrong number of words; nothing
+ *       else was looked at. The ending UNDRELVOA_LENGTH: list, spaces or labels have a wrong length.
+ *   24  UNDRELVOA_ANSWER_RANGE: the bytes or values given to undrelvoa_gather, undrelvoa_scatter or
+ *       undrelvoa_value do not fit. The ending UNDRELVOA_RANGE: a varnode of an operation does not. */
+enum undrelvoa_answer {
+    UNDRELVOA_ANSWER_DONE = 0,
+    UNDRELVOA_ANSWER_SETTING = 10, /* a byte order that is neither 0 nor 1 */
+    UNDRELVOA_ANSWER_LENGTH = 11,  /* settings of another number of words than UNDRELVOA_SETTINGS_WORDS,
+                                    * or too few words for report, place or result */
+    UNDRELVOA_ANSWER_HEAD = 21,    /* an opcode that has no value */
+    UNDRELVOA_ANSWER_SHAPE = 22,   /* a size that is not 1 to 8, an input1 where the opcode has none, or
+                                    * none where it has one */
+    UNDRELVOA_ANSWER_RANGE = 24,   /* bytes beyond the end of the buffer, or a value not below 256^size */
+    UNDRELVOA_ANSWER_SIZE = 25,    /* sizes that the operation does not allow together */
+    UNDRELVOA_ANSWER_ZERO = 33     /* a divisor of 0 */
+};
+
+/* How a run ended, the first word of a report; the second is the index that stands here. A value other
+ * than 0 comes with EXIT alone. The refusals, 10 to 27, come before anything runs, in the order 10, 11, 12,
+ * 21 to 26, 27; nothing is executed or written then, but the report. */
 enum undrelvoa_ending {
     UNDRELVOA_END = 0,      /* the end of the list: the number of operations */
     UNDRELVOA_EXIT = 1,     /* the exiting operation, which is counted; the value is its destination */
@@ -87,17 +166,19 @@ enum undrelvoa_ending {
     UNDRELVOA_LENGTH = 11,  /* words not a multiple of 5, over 4,096 operations, a space over 65,536
                              * bytes, or other numbers of labels than of bytes: 0 */
     UNDRELVOA_LABEL = 12,   /* a label that is neither 0 nor 1: 0 */
-    UNDRELVOA_HEAD = 21,    /* 21 to 26: the first malformed operation, by the lowest rule it breaks */
-    UNDRELVOA_SHAPE = 22,
-    UNDRELVOA_PLACE = 23,
-    UNDRELVOA_RANGE = 24,
-    UNDRELVOA_SIZE = 25,
-    UNDRELVOA_TARGET = 26,
+    /* 21 to 26: the first malformed operation, by the lowest rule that it breaks */
+    UNDRELVOA_HEAD = 21,    /* an opcode out of range, or a spare byte of the head that is not 0 */
+    UNDRELVOA_SHAPE = 22,   /* a varnode that the opcode has not, or lacks; a descriptor out of range */
+    UNDRELVOA_PLACE = 23,   /* a varnode in a space where it may not lie */
+    UNDRELVOA_RANGE = 24,   /* a varnode outside its space, or a constant that its size does not hold */
+    UNDRELVOA_SIZE = 25,    /* sizes that the operation does not allow together */
+    UNDRELVOA_TARGET = 26,  /* a destination that is no index from 0 to the number of operations */
     UNDRELVOA_START = 27,   /* a start above the number of operations: 0 */
-    UNDRELVOA_LEAK = 31,    /* 31 to 34: the operation that was not executed, in this order. LEAK: a */
-    UNDRELVOA_BOUNDS = 32,  /* byte that must be public is secret. BOUNDS: a pointer past its space. */
-    UNDRELVOA_ZERO = 33,    /* ZERO: a divisor of 0. LOG: a word is due and the log is full */
-    UNDRELVOA_LOG = 34
+    /* 31 to 34: the operation that was not executed; where several hold, the lowest */
+    UNDRELVOA_LEAK = 31,    /* a byte that must be public is secret */
+    UNDRELVOA_BOUNDS = 32,  /* a pointer to bytes outside its space */
+    UNDRELVOA_ZERO = 33,    /* a divisor of 0 */
+    UNDRELVOA_LOG = 34      /* a log word is due, and the log is full */
 };
 
 /* The value of an integer operation.
@@ -118,7 +199,7 @@ uint64_t undrelvoa_value(uint64_t opcode, uint64_t output_size, uint64_t size0, 
 
 /* The value of the `size` bytes at `offset` of a buffer.
  *
- *   order        byte order: 0 little, 1 big
+ *   order        UNDRELVOA_LITTLE or UNDRELVOA_BIG
  *   bytes        the buffer, only read
  *   bytes_len    its bytes
  *   offset       where the value starts
@@ -133,7 +214,7 @@ uint64_t undrelvoa_gather(uint64_t order, const uint8_t *bytes, size_t bytes_len
 
 /* Writes a value as the `size` bytes at `offset` of a buffer; every other byte stays as it is.
  *
- *   order        byte order: 0 little, 1 big
+ *   order        UNDRELVOA_LITTLE or UNDRELVOA_BIG
  *   bytes        the buffer, written
  *   bytes_len    its bytes
  *   offset       where the value starts
@@ -145,61 +226,58 @@ uint64_t undrelvoa_gather(uint64_t order, const uint8_t *bytes, size_t bytes_len
 uint64_t undrelvoa_scatter(uint64_t order, uint8_t *bytes, size_t bytes_len, uint64_t offset,
                            uint64_t size, uint64_t value);
 
-/* The verdict on a list of operations: the papers' judge.
+/* The verdict on a list of operations.
  *
- *   order         byte order: 0 little, 1 big
- *   address_size  bytes of an address, 1 to 8
+ *   settings      byte order and address size, only read
+ *   settings_len  its words, UNDRELVOA_SETTINGS_WORDS
  *   unique_len    bytes of the unique, register and ram spaces, at most 65,536 each
  *   register_len
  *   ram_len
- *   list          the operations, five words each, only read: a head, then the offsets of output, input0,
- *                 input1 and input2. The head's bytes, least significant first, are the opcode, a
- *                 descriptor for each of these four (space * 16 + size, or 0 for an absent one, with
- *                 offset 0), and three zeros
+ *   list          the operations, five words each, only read
  *   list_len      its words
- *   report        report[0] to report[4] become ending, index, operations executed, log words written
- *                 and value; further words stay as they are
- *   report_len    words of report, at least 5
+ *   report        its first five words become the report; further words stay as they are
+ *   report_len    words of report, at least UNDRELVOA_REPORT_WORDS
  *
  * The ending is 0 with the number of operations as index; or 10, 11 with index 0; or 21 to 26, the
  * lowest rule that the first malformed operation breaks, with its index. The last three are 0.
  * Answers 0 when the report is written, or 11.
  */
-uint64_t undrelvoa_validate(uint64_t order, uint64_t address_size, uint64_t unique_len,
+uint64_t undrelvoa_validate(const uint64_t *settings, size_t settings_len, uint64_t unique_len,
                             uint64_t register_len, uint64_t ram_len, const uint64_t *list,
                             size_t list_len, uint64_t *report, size_t report_len);
 
-/* A run of a list of operations, without labels: the papers' plain run.
+/* A run of a list of operations, without labels.
  *
- *   order, address_size, list, list_len   as for undrelvoa_validate
+ *   settings, settings_len, list, list_len   as for undrelvoa_validate
  *   start        the index of the first operation to execute, at most the number of operations
  *   budget       the most operations to execute
  *   unique, register_space, ram   the three spaces, read and written
  *   unique_len, register_len, ram_len   their bytes, at most 65,536 each
- *   log          its first words become the log words written; further words stay as they are. Each
- *                LOAD, STORE and CBRANCH executed writes one word: its index * 2^32 plus the byte
- *                offset, or plus 1 if taken and 0 if not
+ *   log          its first words become the log words written, one for each LOAD, STORE and CBRANCH
+ *                executed; further words stay as they are
  *   log_len      words of log: the log's room
- *   report       report[0] to report[4] become ending, index, operations executed, log words written
- *                and value; further words stay as they are
- *   report_len   words of report, at least 5
+ *   report       its first five words become the report; further words stay as they are
+ *   report_len   words of report, at least UNDRELVOA_REPORT_WORDS
  *
  * The endings are those of enum undrelvoa_ending but for 12 and 31. After a refusal the spaces and the
  * log are as lent; after another ending they are as the executed operations left them.
  * Answers 0 when the report is written, or 11.
  */
-uint64_t undrelvoa_run(uint64_t order, uint64_t address_size, const uint64_t *list, size_t list_len,
-                       uint64_t start, uint32_t budget, uint8_t *unique, size_t unique_len,
-                       uint8_t *register_space, size_t register_len, uint8_t *ram, size_t ram_len,
-                       uint64_t *log, size_t log_len, uint64_t *report, size_t report_len);
+uint64_t undrelvoa_run(const uint64_t *settings, size_t settings_len, const uint64_t *list,
+                       size_t list_len, uint64_t start, uint32_t budget, uint8_t *unique,
+                       size_t unique_len, uint8_t *register_space, size_t register_len, uint8_t *ram,
+                       size_t ram_len, uint64_t *log, size_t log_len, uint64_t *report,
+                       size_t report_len);
 
-/* The same with a budget of 1. */
-uint64_t undrelvoa_step(uint64_t order, uint64_t address_size, const uint64_t *list, size_t list_len,
-                        uint64_t start, uint8_t *unique, size_t unique_len, uint8_t *register_space,
-                        size_t register_len, uint8_t *ram, size_t ram_len, uint64_t *log,
-                        size_t log_len, uint64_t *report, size_t report_len);
+/* The same with a budget of 1. Each call checks the whole list anew, so it costs as much as the list is
+ * long: to execute many operations, call undrelvoa_run with a larger budget, and go on from its index where
+ * it ends with UNDRELVOA_BUDGET. */
+uint64_t undrelvoa_step(const uint64_t *settings, size_t settings_len, const uint64_t *list,
+                        size_t list_len, uint64_t start, uint8_t *unique, size_t unique_len,
+                        uint8_t *register_space, size_t register_len, uint8_t *ram, size_t ram_len,
+                        uint64_t *log, size_t log_len, uint64_t *report, size_t report_len);
 
-/* A run with a label for each byte of each space: the papers' labelled run.
+/* A run with a label for each byte of each space.
  *
  *   unique_labels, register_labels, ram_labels   one byte for each byte of each space, 0 public, 1
  *                secret, read and written
@@ -212,7 +290,7 @@ uint64_t undrelvoa_step(uint64_t order, uint64_t address_size, const uint64_t *l
  * public.
  * Answers 0 when the report is written, or 11.
  */
-uint64_t undrelvoa_labelled_run(uint64_t order, uint64_t address_size, const uint64_t *list,
+uint64_t undrelvoa_labelled_run(const uint64_t *settings, size_t settings_len, const uint64_t *list,
                                 size_t list_len, uint64_t start, uint32_t budget, uint8_t *unique,
                                 size_t unique_len, uint8_t *register_space, size_t register_len,
                                 uint8_t *ram, size_t ram_len, uint8_t *unique_labels,
@@ -221,8 +299,8 @@ uint64_t undrelvoa_labelled_run(uint64_t order, uint64_t address_size, const uin
                                 size_t ram_labels_len, uint64_t *log, size_t log_len,
                                 uint64_t *report, size_t report_len);
 
-/* The same with a budget of 1. */
-uint64_t undrelvoa_labelled_step(uint64_t order, uint64_t address_size, const uint64_t *list,
+/* The same with a budget of 1. Each call checks the whole list and every label anew. */
+uint64_t undrelvoa_labelled_step(const uint64_t *settings, size_t settings_len, const uint64_t *list,
                                  size_t list_len, uint64_t start, uint8_t *unique,
                                  size_t unique_len, uint8_t *register_space, size_t register_len,
                                  uint8_t *ram, size_t ram_len, uint8_t *unique_labels,
@@ -235,13 +313,13 @@ uint64_t undrelvoa_labelled_step(uint64_t order, uint64_t address_size, const ui
  *
  *   unique, register_space, ram   the three spaces, only read
  *   unique_len, register_len, ram_len   their bytes
- *   space        2 unique, 3 register, 4 ram
+ *   space        an undrelvoa_space other than UNDRELVOA_SPACE_CONSTANT
  *   offset       where the varnode starts in its space
  *   size         its bytes, 1 to 8
- *   place        place[0] to place[2] become space, offset and number of bytes; all three are 0 for
+ *   place        its first three words become space, offset and number of bytes; all three are 0 for
  *                any other space number, a size outside 1 to 8 or a place outside its space; further
  *                words stay as they are
- *   place_len    words of place, at least 3
+ *   place_len    words of place, at least UNDRELVOA_PLACE_WORDS
  *
  * Answers 0 when the place is written, or 11.
  */

@@ -3,8 +3,8 @@
 // As in include/undrelvoa.h.
 extern "C" {
     fn undrelvoa_run(
-        order: u64,
-        address_size: u64,
+        settings: *const u64,
+        settings_len: usize,
         list: *const u64,
         list_len: usize,
         start: u64,
@@ -22,8 +22,8 @@ extern "C" {
     ) -> u64;
 
     fn undrelvoa_labelled_run(
-        order: u64,
-        address_size: u64,
+        settings: *const u64,
+        settings_len: usize,
         list: *const u64,
         list_len: usize,
         start: u64,
@@ -85,13 +85,14 @@ impl Labels {
 
 /// The report of a plain run.
 pub fn run(program: &Program, budget: u32, state: &mut State) -> [u64; 5] {
+    let settings = [program.order, program.address_size];
     let mut report = [0; 5];
     // SAFETY: each pointer and length are those of one buffer, lent to this call alone; the buffers
-    // do not overlap. The pointer of an empty one is not null.
+    // do not overlap.
     let answer = unsafe {
         undrelvoa_run(
-            program.order,
-            program.address_size,
+            settings.as_ptr(),
+            settings.len(),
             program.list.as_ptr(),
             program.list.len(),
             0,
@@ -119,13 +120,14 @@ pub fn labelled_run(
     state: &mut State,
     labels: &mut Labels,
 ) -> [u64; 5] {
+    let settings = [program.order, program.address_size];
     let mut report = [0; 5];
     // SAFETY: each pointer and length are those of one buffer, lent to this call alone; the buffers
-    // do not overlap. The pointer of an empty one is not null.
+    // do not overlap.
     let answer = unsafe {
         undrelvoa_labelled_run(
-            program.order,
-            program.address_size,
+            settings.as_ptr(),
+            settings.len(),
             program.list.as_ptr(),
             program.list.len(),
             0,

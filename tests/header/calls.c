@@ -1,7 +1,12 @@
 /* Calls each function of the C interface through its header, and counts the answers that are as the header says. */
 #include "undrelvoa.h"
 
+#include <pthread.h>
 #include <stdio.h>
+#include <string.h>
+
+static const uint64_t little8[UNDRELVOA_SETTINGS_WORDS] = {UNDRELVOA_LITTLE, 8};
+static const uint64_t little1[UNDRELVOA_SETTINGS_WORDS] = {UNDRELVOA_LITTLE, 1};
 
 static int passed, failed;
 
@@ -47,14 +52,14 @@ static void verdicts(void) {
     uint64_t report[6] = {7, 7, 7, 7, 7, 9};
     list[0] = 1 | (uint64_t)0x24 << 8 | (uint64_t)0x34 << 16;
     list[2] = 12;
-    expect("validate", undrelvoa_validate(0, 8, 16, 16, 16, list, 5, report, 6), 0);
+    expect("validate", undrelvoa_validate(little8, 2, 16, 16, 16, list, 5, report, 6), 0);
     expect("ending", report[0], 0);
     expect("index", report[1], 1);
     expect("the word after the report", report[5], 9);
     list[2] = 13;
-    expect("validate", undrelvoa_validate(0, 8, 16, 16, 16, list, 5, report, 6), 0);
+    expect("validate", undrelvoa_validate(little8, 2, 16, 16, 16, list, 5, report, 6), 0);
     expect("offset 13", report[0], 24);
-    expect("short report", undrelvoa_validate(0, 8, 16, 16, 16, list, 5, report, 4), 11);
+    expect("short report", undrelvoa_validate(little8, 2, 16, 16, 16, list, 5, report, 4), 11);
 }
 
 /* Known results: bytes 01 02 03 04, COPY of 2 bytes from 0 to 1: 01 01 02 04. Then a BRANCH to ram 7, an exit. */
@@ -63,7 +68,7 @@ static void runs(void) {
     uint8_t unique[1] = {0}, registers[4] = {1, 2, 3, 4}, ram[8] = {0};
     uint64_t log[1] = {8};
     uint64_t report[6] = {7, 7, 7, 7, 7, 9};
-    expect("step", undrelvoa_step(0, 8, list, 10, 0, unique, 1, registers, 4, ram, 8, log, 1, report, 6), 0);
+    expect("step", undrelvoa_step(little8, 2, list, 10, 0, unique, 1, registers, 4, ram, 8, log, 1, report, 6), 0);
     expect("budget spent", report[0], 2);
     expect("next index", report[1], 1);
     expect("executed", report[2], 1);
@@ -71,14 +76,14 @@ static void runs(void) {
     expect("byte written", registers[1], 1);
     expect("byte written", registers[2], 2);
     expect("byte after", registers[3], 4);
-    expect("run", undrelvoa_run(0, 8, list, 10, 1, 9, unique, 1, registers, 4, ram, 8, log, 1, report, 6), 0);
+    expect("run", undrelvoa_run(little8, 2, list, 10, 1, 9, unique, 1, registers, 4, ram, 8, log, 1, report, 6), 0);
     expect("exit", report[0], 1);
     expect("destination", report[4], 7);
     expect("the log's word", log[0], 8);
     expect("the word after the report", report[5], 9);
-    expect("run", undrelvoa_run(0, 8, list, 10, 3, 9, unique, 1, registers, 4, ram, 8, log, 1, report, 6), 0);
+    expect("run", undrelvoa_run(little8, 2, list, 10, 3, 9, unique, 1, registers, 4, ram, 8, log, 1, report, 6), 0);
     expect("start after the end", report[0], 27);
-    expect("short report", undrelvoa_run(0, 8, list, 10, 0, 9, unique, 1, registers, 4, ram, 8, log, 1, report, 4), 11);
+    expect("short report", undrelvoa_run(little8, 2, list, 10, 0, 9, unique, 1, registers, 4, ram, 8, log, 1, report, 4), 11);
     expect("byte after a refusal", registers[2], 2);
 }
 
@@ -89,7 +94,7 @@ static void labelled_runs(void) {
     uint8_t of_unique[1] = {0}, of_registers[4] = {1, 0, 0, 0}, of_ram[8] = {0};
     uint64_t log[1] = {8};
     uint64_t report[6] = {7, 7, 7, 7, 7, 9};
-    expect("labelled step", undrelvoa_labelled_step(0, 1, list, 10, 0, unique, 1, registers, 4, ram, 8, of_unique, 1, of_registers, 4, of_ram, 8, log, 1, report, 6), 0);
+    expect("labelled step", undrelvoa_labelled_step(little1, 2, list, 10, 0, unique, 1, registers, 4, ram, 8, of_unique, 1, of_registers, 4, of_ram, 8, log, 1, report, 6), 0);
     expect("budget spent", report[0], 2);
     expect("next index", report[1], 1);
     expect("byte written", registers[2], 2);
@@ -97,23 +102,23 @@ static void labelled_runs(void) {
     expect("label written", of_registers[1], 1);
     expect("label written", of_registers[2], 1);
     expect("label after", of_registers[3], 0);
-    expect("labelled run", undrelvoa_labelled_run(0, 1, list, 10, 1, 9, unique, 1, registers, 4, ram, 8, of_unique, 1, of_registers, 4, of_ram, 8, log, 1, report, 6), 0);
+    expect("labelled run", undrelvoa_labelled_run(little1, 2, list, 10, 1, 9, unique, 1, registers, 4, ram, 8, of_unique, 1, of_registers, 4, of_ram, 8, log, 1, report, 6), 0);
     expect("secret destination", report[0], 31);
     expect("where it stopped", report[1], 1);
     expect("not executed", report[2], 0);
     expect("no value", report[4], 0);
     of_registers[2] = 0;
-    expect("labelled run", undrelvoa_labelled_run(0, 1, list, 10, 1, 9, unique, 1, registers, 4, ram, 8, of_unique, 1, of_registers, 4, of_ram, 8, log, 1, report, 6), 0);
+    expect("labelled run", undrelvoa_labelled_run(little1, 2, list, 10, 1, 9, unique, 1, registers, 4, ram, 8, of_unique, 1, of_registers, 4, of_ram, 8, log, 1, report, 6), 0);
     expect("exit", report[0], 1);
     expect("destination", report[4], 2);
     expect("the word after the report", report[5], 9);
-    expect("labelled run", undrelvoa_labelled_run(0, 1, list, 10, 0, 9, unique, 1, registers, 4, ram, 8, of_unique, 1, of_registers, 3, of_ram, 8, log, 1, report, 6), 0);
+    expect("labelled run", undrelvoa_labelled_run(little1, 2, list, 10, 0, 9, unique, 1, registers, 4, ram, 8, of_unique, 1, of_registers, 3, of_ram, 8, log, 1, report, 6), 0);
     expect("a label too few", report[0], 11);
     of_registers[3] = 2;
-    expect("labelled run", undrelvoa_labelled_run(0, 1, list, 10, 0, 9, unique, 1, registers, 4, ram, 8, of_unique, 1, of_registers, 4, of_ram, 8, log, 1, report, 6), 0);
+    expect("labelled run", undrelvoa_labelled_run(little1, 2, list, 10, 0, 9, unique, 1, registers, 4, ram, 8, of_unique, 1, of_registers, 4, of_ram, 8, log, 1, report, 6), 0);
     expect("a label of 2", report[0], 12);
     expect("the label after a refusal", of_registers[2], 0);
-    expect("short report", undrelvoa_labelled_run(0, 1, list, 10, 0, 9, unique, 1, registers, 4, ram, 8, of_unique, 1, of_registers, 4, of_ram, 8, log, 1, report, 4), 11);
+    expect("short report", undrelvoa_labelled_run(little1, 2, list, 10, 0, 9, unique, 1, registers, 4, ram, 8, of_unique, 1, of_registers, 4, of_ram, 8, log, 1, report, 4), 11);
 }
 
 static void shown(void) {
@@ -127,13 +132,152 @@ static void shown(void) {
     expect("no bytes", place[2], 0);
 }
 
+/* Known results: the worked example's operations in words, as a case of theirs has them in its lines. */
+static void names(void) {
+    expect("INT_AND head",
+           UNDRELVOA_OPERATION_HEAD(UNDRELVOA_INT_AND, UNDRELVOA_DESCRIPTOR(UNDRELVOA_SPACE_UNIQUE, 4),
+                                    UNDRELVOA_DESCRIPTOR(UNDRELVOA_SPACE_REGISTER, 4),
+                                    UNDRELVOA_DESCRIPTOR(UNDRELVOA_SPACE_CONSTANT, 4), UNDRELVOA_ABSENT),
+           0x1434241d);
+    expect("STORE head",
+           UNDRELVOA_OPERATION_HEAD(UNDRELVOA_STORE, UNDRELVOA_ABSENT,
+                                    UNDRELVOA_DESCRIPTOR(UNDRELVOA_SPACE_CONSTANT, 1),
+                                    UNDRELVOA_DESCRIPTOR(UNDRELVOA_SPACE_RAM, 8),
+                                    UNDRELVOA_DESCRIPTOR(UNDRELVOA_SPACE_UNIQUE, 2)),
+           0x2248110003);
+    expect("log index", UNDRELVOA_LOG_INDEX(0x0000000100000005), 1);
+    expect("log offset", UNDRELVOA_LOG_OFFSET(0x0000000100000005), 5);
+    expect("version",
+           (uint64_t)strcmp(UNDRELVOA_VERSION, VERSION_FILE) == 0
+               && UNDRELVOA_VERSION_MAJOR == VERSION_MAJOR && UNDRELVOA_VERSION_MINOR == VERSION_MINOR
+               && UNDRELVOA_VERSION_PATCH == VERSION_PATCH,
+           1);
+}
+
+/* A number too many and a number too few of each limit. */
+static void limits(void) {
+    static uint64_t list[(UNDRELVOA_MAX_OPERATIONS + 1) * UNDRELVOA_OPERATION_WORDS];
+    const uint64_t copy = UNDRELVOA_OPERATION_HEAD(UNDRELVOA_COPY, UNDRELVOA_DESCRIPTOR(UNDRELVOA_SPACE_RAM, UNDRELVOA_MAX_SIZE),
+                                                   UNDRELVOA_DESCRIPTOR(UNDRELVOA_SPACE_RAM, UNDRELVOA_MAX_SIZE), 0, 0);
+    uint64_t report[UNDRELVOA_REPORT_WORDS];
+    size_t i, words = UNDRELVOA_MAX_OPERATIONS * UNDRELVOA_OPERATION_WORDS;
+    for (i = 0; i <= UNDRELVOA_MAX_OPERATIONS; i++) {
+        list[i * UNDRELVOA_OPERATION_WORDS] = copy;
+    }
+    expect("validate", undrelvoa_validate(little8, 2, 0, 0, UNDRELVOA_MAX_SPACE_BYTES, list, words, report, 5), 0);
+    expect("all operations", report[UNDRELVOA_REPORT_ENDING], UNDRELVOA_END);
+    expect("their number", report[UNDRELVOA_REPORT_INDEX], UNDRELVOA_MAX_OPERATIONS);
+    undrelvoa_validate(little8, 2, 0, 0, UNDRELVOA_MAX_SPACE_BYTES, list, words + UNDRELVOA_OPERATION_WORDS, report, 5);
+    expect("an operation too many", report[UNDRELVOA_REPORT_ENDING], UNDRELVOA_LENGTH);
+    undrelvoa_validate(little8, 2, 0, 0, UNDRELVOA_MAX_SPACE_BYTES + 1, list, words, report, 5);
+    expect("a byte too many", report[UNDRELVOA_REPORT_ENDING], UNDRELVOA_LENGTH);
+    list[0] = copy + 1 + ((uint64_t)1 << 8);
+    undrelvoa_validate(little8, 2, 0, 0, UNDRELVOA_MAX_SPACE_BYTES, list, words, report, 5);
+    expect("a size too large", report[UNDRELVOA_REPORT_ENDING], UNDRELVOA_SHAPE);
+}
+
+/* Settings of 0 to 3 words: only two are taken, and a refused call changes nothing. */
+static void settings(void) {
+    const uint64_t words[3] = {UNDRELVOA_LITTLE, 8, 0};
+    uint64_t list[5] = {0, 0, 9, 0, 0};
+    size_t n;
+    list[0] = UNDRELVOA_OPERATION_HEAD(UNDRELVOA_COPY, UNDRELVOA_DESCRIPTOR(UNDRELVOA_SPACE_UNIQUE, 1),
+                                       UNDRELVOA_DESCRIPTOR(UNDRELVOA_SPACE_CONSTANT, 1), 0, 0);
+    for (n = 0; n <= 3; n++) {
+        uint64_t wanted = n == UNDRELVOA_SETTINGS_WORDS ? UNDRELVOA_ANSWER_DONE : UNDRELVOA_ANSWER_LENGTH;
+        int call;
+        for (call = 0; call < 5; call++) {
+            uint8_t unique[1] = {7}, labels[1] = {UNDRELVOA_SECRET};
+            uint64_t log[1] = {7}, report[5] = {7, 7, 7, 7, 7}, answer;
+            int taken = n == UNDRELVOA_SETTINGS_WORDS, runs = call > 0;
+            switch (call) {
+            case 0: answer = undrelvoa_validate(words, n, 1, 0, 0, list, 5, report, 5); break;
+            case 1: answer = undrelvoa_run(words, n, list, 5, 0, 9, unique, 1, NULL, 0, NULL, 0, log, 1, report, 5); break;
+            case 2: answer = undrelvoa_step(words, n, list, 5, 0, unique, 1, NULL, 0, NULL, 0, log, 1, report, 5); break;
+            case 3: answer = undrelvoa_labelled_run(words, n, list, 5, 0, 9, unique, 1, NULL, 0, NULL, 0, labels, 1, NULL, 0, NULL, 0, log, 1, report, 5); break;
+            default: answer = undrelvoa_labelled_step(words, n, list, 5, 0, unique, 1, NULL, 0, NULL, 0, labels, 1, NULL, 0, NULL, 0, log, 1, report, 5);
+            }
+            expect("settings of n words", answer, wanted);
+            expect("the report then", report[UNDRELVOA_REPORT_ENDING], taken ? UNDRELVOA_END : 7);
+            expect("the byte then", unique[0], taken && runs ? 9 : 7);
+            expect("the label then", labels[0], taken && call > 2 ? UNDRELVOA_PUBLIC : UNDRELVOA_SECRET);
+        }
+    }
+    expect("no settings at all", undrelvoa_validate(NULL, 0, 1, 0, 0, list, 5, NULL, 0), UNDRELVOA_ANSWER_LENGTH);
+}
+
+/* Every buffer without elements may be NULL. */
+static void empty(void) {
+    uint64_t report[5] = {7, 7, 7, 7, 7}, place[3] = {7, 7, 7};
+    expect("value", undrelvoa_value(UNDRELVOA_INT_ADD, 1, 1, 1, 1, 1, NULL, 0), UNDRELVOA_ANSWER_LENGTH);
+    expect("gather", undrelvoa_gather(UNDRELVOA_LITTLE, NULL, 0, 0, 1, report, 1), UNDRELVOA_ANSWER_RANGE);
+    expect("gather", undrelvoa_gather(UNDRELVOA_LITTLE, NULL, 0, 0, 1, NULL, 0), UNDRELVOA_ANSWER_LENGTH);
+    expect("scatter", undrelvoa_scatter(UNDRELVOA_BIG, NULL, 0, 0, 1, 0), UNDRELVOA_ANSWER_RANGE);
+    expect("validate", undrelvoa_validate(little8, 2, 0, 0, 0, NULL, 0, report, 5), 0);
+    expect("an empty list", report[UNDRELVOA_REPORT_ENDING], UNDRELVOA_END);
+    expect("run", undrelvoa_run(little8, 2, NULL, 0, 0, 9, NULL, 0, NULL, 0, NULL, 0, NULL, 0, report, 5), 0);
+    expect("an empty run", report[UNDRELVOA_REPORT_ENDING], UNDRELVOA_END);
+    expect("step", undrelvoa_step(little8, 2, NULL, 0, 1, NULL, 0, NULL, 0, NULL, 0, NULL, 0, report, 5), 0);
+    expect("a step after the end", report[UNDRELVOA_REPORT_ENDING], UNDRELVOA_START);
+    expect("labelled run", undrelvoa_labelled_run(little8, 2, NULL, 0, 0, 9, NULL, 0, NULL, 0, NULL, 0, NULL, 0, NULL, 0, NULL, 0, NULL, 0, report, 5), 0);
+    expect("an empty run", report[UNDRELVOA_REPORT_ENDING], UNDRELVOA_END);
+    expect("labelled step", undrelvoa_labelled_step(little8, 2, NULL, 0, 0, NULL, 0, NULL, 0, NULL, 0, NULL, 0, NULL, 0, NULL, 0, NULL, 0, NULL, 0), UNDRELVOA_ANSWER_LENGTH);
+    expect("show", undrelvoa_show(NULL, 0, NULL, 0, NULL, 0, UNDRELVOA_SPACE_RAM, 0, 1, place, UNDRELVOA_PLACE_WORDS), 0);
+    expect("nothing to show", place[UNDRELVOA_PLACE_SPACE] + place[UNDRELVOA_PLACE_OFFSET] + place[UNDRELVOA_PLACE_BYTES], 0);
+    expect("show", undrelvoa_show(NULL, 0, NULL, 0, NULL, 0, UNDRELVOA_SPACE_RAM, 0, 1, NULL, 0), UNDRELVOA_ANSWER_LENGTH);
+}
+
+/* Counts a byte down from `from` in a loop, with the same list and settings as the other threads, and the smallest stack. */
+static uint64_t loop[10];
+
+static void *count_down(void *from) {
+    uint8_t registers[2];
+    uint64_t log[256], report[5];
+    registers[0] = *(uint8_t *)from;
+    registers[1] = 0;
+    undrelvoa_run(little8, 2, loop, 10, 0, 100000, NULL, 0, registers, 2, NULL, 0, log, 256, report, 5);
+    *(uint8_t *)from = report[UNDRELVOA_REPORT_ENDING] == UNDRELVOA_END && registers[0] == 0
+                       && report[UNDRELVOA_REPORT_LOGGED] * 2 == report[UNDRELVOA_REPORT_EXECUTED]
+                       && report[UNDRELVOA_REPORT_LOGGED] == *(uint8_t *)from;
+    return NULL;
+}
+
+/* Known results: n turns of two operations, each with one log word. */
+static void threads(void) {
+    enum { COUNT = 64 };
+    static uint8_t from[COUNT];
+    static pthread_t started[COUNT];
+    pthread_attr_t small;
+    int i, failures = 0;
+    const uint64_t byte = UNDRELVOA_DESCRIPTOR(UNDRELVOA_SPACE_REGISTER, 1), one = UNDRELVOA_DESCRIPTOR(UNDRELVOA_SPACE_CONSTANT, 1);
+    loop[0] = UNDRELVOA_OPERATION_HEAD(UNDRELVOA_INT_SUB, byte, byte, one, UNDRELVOA_ABSENT);
+    loop[3] = 1;
+    loop[5] = UNDRELVOA_OPERATION_HEAD(UNDRELVOA_CBRANCH, UNDRELVOA_ABSENT, one, byte, UNDRELVOA_ABSENT);
+    loop[7] = UINT64_MAX;
+    failures += pthread_attr_init(&small) != 0;
+    failures += pthread_attr_setstacksize(&small, 16384) != 0;
+    for (i = 0; i < COUNT; i++) {
+        from[i] = (uint8_t)(i * 3 + 1);
+        failures += pthread_create(&started[i], &small, count_down, &from[i]) != 0;
+    }
+    for (i = 0; i < COUNT; i++) {
+        failures += pthread_join(started[i], NULL) != 0 || from[i] != 1;
+    }
+    expect("threads that share a list", (uint64_t)failures, 0);
+}
+
 int main(void) {
+    names();
     values();
     bytes();
     verdicts();
     runs();
     labelled_runs();
     shown();
+    limits();
+    settings();
+    empty();
+    threads();
     printf("%d passed, %d failed\n", passed, failed);
     return failed != 0;
 }

@@ -18,6 +18,13 @@ struct Got {
 }
 
 fn main() {
+    if 1 < os::arg_count() {
+        io::write_all(
+            STDERR,
+            b"case: it takes no argument, and nothing was run\nusage: case <FILE, or ./run-case FILE in the repository\nWhat it prints holds the secret bytes in clear.\n",
+        );
+        return;
+    }
     let mut line = buffers::line();
     let mut memory = buffers::spaces();
     let mut labels = buffers::spaces();

@@ -7,12 +7,12 @@ use lib.ListN.{length}
 use Rattle.operation.specs.Rules.{lengthOf}
 use Rattle.validation.specs.Verdict.{verdict}
 use Rattle.show.specs.Show.{showable}
-use Rattle.undrelvoa.specs.Buffers.{reportWords, settingsOf}
+use Rattle.undrelvoa.specs.Buffers.{reportWords, settingsIn}
 
 -- The words of a verdict.
-unfoldable pub verdictWords : (order addressSize unique register ram : ℕ) → List ℕ → List ℕ
-verdictWords order addressSize unique register ram list =
-    reportWords (verdict (settingsOf order addressSize) (record { unique = unique; register = register; ram = ram }) list)
+unfoldable pub verdictWords : (settings : List ℕ) (unique register ram : ℕ) → List ℕ → List ℕ
+verdictWords settings unique register ram list =
+    reportWords (verdict (settingsIn settings) (record { unique = unique; register = register; ram = ram }) list)
 
 -- How many bytes are shown. `lengthOf` gives 0 for a number that is no space with bytes, so nothing is showable there.
 unfoldable pub shownLength : (unique register ram : List ℕ) (space offset size : ℕ) → ℕ

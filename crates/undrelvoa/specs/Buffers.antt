@@ -3,6 +3,7 @@ use Prim.Native.Nat.{ℕ}
 use mathlib.Core.Bool.{cond}
 use mathlib.Core.List.{List, [], _∷_}
 use lib.Dec.{leb}
+use lib.ListN.{getD}
 use lib.Seq.{sets}
 use Rattle.operation.specs.declared.layout.Settings.{Settings}
 use Rattle.operation.specs.declared.report.Report.{Report}
@@ -17,9 +18,9 @@ roomFault words room = cond (leb words room) 0 11
 unfoldable pub reportWords : Report → List ℕ
 reportWords r = r .ending ∷ r .index ∷ r .executed ∷ r .logged ∷ r .value ∷ []
 
--- The settings of a call.
-abbrev pub settingsOf : (order addressSize : ℕ) → Settings
-settingsOf order addressSize = record { order = order; «address_size» = addressSize }
+-- The settings in the words of a call.
+unfoldable pub settingsIn : List ℕ → Settings
+settingsIn ws = record { order = getD ws 0 0; «address_size» = getD ws 1 0 }
 
 -- The buffers lent to a run.
 pub record Buffers : Type 0 where

@@ -1,5 +1,5 @@
 -- The C calls that run, and the interpreter's calls: what holds of these holds of the C calls by one law.
-use Prim.Native.Nat.{ℕ, _+_, _≤_}
+use Prim.Native.Nat.{ℕ, _+_}
 use mathlib.Core.Bool.{cond}
 use mathlib.Core.List.{List}
 use mathlib.Core.Path.{_≡_}
@@ -12,31 +12,32 @@ use Rattle.machine.specs.Calls.{Outcome, plainOutcome, labelledOutcome, plainRu
 use Rattle.machine.specs.Noninterference.{LowEquivalent, Labelled, Indistinguishable, PlainAlike}
 use Rattle.machine.specs.Resume.{Summed}
 use Rattle.runs.specs.Promises.{RunPromise, LabelledRunPromise}
-use Rattle.undrelvoa.specs.Buffers.{roomFault, settingsOf, plainBuffers, labelledBuffers, after}
+use Rattle.undrelvoa_faults.specs.Faults.{lengthFault}
+use Rattle.undrelvoa.specs.Buffers.{settingsIn, plainBuffers, labelledBuffers, after}
 
 -- ---- what the C calls promise
 
--- The answer: 11 where the report does not fit.
-abbrev pub AnswerPromise : (report : List ℕ) (answer : ℕ) → Type 0
-AnswerPromise report answer = answer ≡ roomFault reportNumbers (length report)
+-- The answer: 11 where the settings have another number of words, or the report does not fit.
+abbrev pub AnswerPromise : (settings report : List ℕ) (answer : ℕ) → Type 0
+AnswerPromise settings report answer = answer ≡ lengthFault (length settings) (length report)
 
 -- The buffers of a plain run when the call returns: what the run leaves, or all as lent.
-abbrev pub BuffersPromise : (order addressSize : ℕ) (list : List ℕ) (start budget : ℕ) (memory : Memory) (log report : List ℕ)
+abbrev pub BuffersPromise : (settings list : List ℕ) (start budget : ℕ) (memory : Memory) (log report : List ℕ)
     (memory′ : Memory) (log′ report′ : List ℕ) (answer : ℕ) → Type 0
-BuffersPromise order addressSize list start budget m log report m′ log′ report′ answer =
+BuffersPromise settings list start budget m log report m′ log′ report′ answer =
     plainBuffers m′ log′ report′
-    ≡ cond (eqb answer 0) (after report (plainRun (settingsOf order addressSize) list start budget log m)) (plainBuffers m log report)
+    ≡ cond (eqb answer 0) (after report (plainRun (settingsIn settings) list start budget log m)) (plainBuffers m log report)
 
 -- Those of a labelled run.
-abbrev pub LabelledBuffersPromise : (order addressSize : ℕ) (list : List ℕ) (start budget : ℕ) (memory labels : Memory) (log report : List ℕ)
+abbrev pub LabelledBuffersPromise : (settings list : List ℕ) (start budget : ℕ) (memory labels : Memory) (log report : List ℕ)
     (memory′ labels′ : Memory) (log′ report′ : List ℕ) (answer : ℕ) → Type 0
-LabelledBuffersPromise order addressSize list start budget m labels log report m′ labels′ log′ report′ answer =
+LabelledBuffersPromise settings list start budget m labels log report m′ labels′ log′ report′ answer =
     labelledBuffers m′ labels′ log′ report′
-    ≡ cond (eqb answer 0) (after report (labelledRun (settingsOf order addressSize) list start budget log labels m)) (labelledBuffers m labels log report)
+    ≡ cond (eqb answer 0) (after report (labelledRun (settingsIn settings) list start budget log labels m)) (labelledBuffers m labels log report)
 
--- A C call of the plain run with room for its report: the buffers lent, the same when it returns, its answer, and its promise. A step is
--- such a call with budget 1.
-pub record PlainCallC (order addressSize : ℕ) (list : List ℕ) (start budget : ℕ) : Type 0 where
+-- A C call of the plain run that answers 0: the buffers lent, the same when it returns, its answer, and its promise. A step is such a call
+-- with budget 1.
+pub record PlainCallC (settings list : List ℕ) (start budget : ℕ) : Type 0 where
   pub memory : Memory
   pub log : List ℕ
   pub report : List ℕ
@@ -44,12 +45,12 @@ pub record PlainCallC (order addressSize : ℕ) (list : List ℕ) (start budget 
   pub log′ : List ℕ
   pub report′ : List ℕ
   pub answer : ℕ
-  pub room : reportNumbers ≤ length report
-  pub answers : AnswerPromise report answer
-  pub leaves : BuffersPromise order addressSize list start budget memory log report memory′ log′ report′ answer
+  pub answers : AnswerPromise settings report answer
+  pub accepted : answer ≡ 0
+  pub leaves : BuffersPromise settings list start budget memory log report memory′ log′ report′ answer
 
--- A C call of the labelled run.
-pub record LabelledCallC (order addressSize : ℕ) (list : List ℕ) (start budget : ℕ) : Type 0 where
+-- A C call of the labelled run that answers 0.
+pub record LabelledCallC (settings list : List ℕ) (start budget : ℕ) : Type 0 where
   pub memory : Memory
   pub labels : Memory
   pub log : List ℕ
@@ -59,9 +60,9 @@ pub record LabelledCallC (order addressSize : ℕ) (list : List ℕ) (start budg
   pub log′ : List ℕ
   pub report′ : List ℕ
   pub answer : ℕ
-  pub room : reportNumbers ≤ length report
-  pub answers : AnswerPromise report answer
-  pub leaves : LabelledBuffersPromise order addressSize list start budget memory labels log report memory′ labels′ log′ report′ answer
+  pub answers : AnswerPromise settings report answer
+  pub accepted : answer ≡ 0
+  pub leaves : LabelledBuffersPromise settings list start budget memory labels log report memory′ labels′ log′ report′ answer
 
 -- ---- the law
 
@@ -69,33 +70,33 @@ pub record LabelledCallC (order addressSize : ℕ) (list : List ℕ) (start budg
 abbrev pub reportIn : List ℕ → Report
 reportIn ws = record { ending = getD ws 0 0; index = getD ws 1 0; executed = getD ws 2 0; logged = getD ws 3 0; value = getD ws 4 0 }
 
--- A C call with room for its report keeps the promise of the interpreter's call, with the report in the buffer's words; the words behind
+-- A C call that answers 0 keeps the promise of the interpreter's call, with the report in the buffer's words; the words behind
 -- the report are as lent.
 pub record ThroughInterpreter : Type 0 where
-  pub plain : {order addressSize : ℕ} {list : List ℕ} {start budget : ℕ} (c : PlainCallC order addressSize list start budget)
-      → RunPromise (settingsOf order addressSize) list start budget (c .memory) (c .log) (c .memory′) (c .log′) (reportIn (c .report′))
-  pub labelled : {order addressSize : ℕ} {list : List ℕ} {start budget : ℕ} (c : LabelledCallC order addressSize list start budget)
-      → LabelledRunPromise (settingsOf order addressSize) list start budget (c .memory) (c .labels) (c .log) (c .memory′) (c .labels′) (c .log′) (reportIn (c .report′))
-  pub plainLent : {order addressSize : ℕ} {list : List ℕ} {start budget : ℕ} (c : PlainCallC order addressSize list start budget)
+  pub plain : {settings list : List ℕ} {start budget : ℕ} (c : PlainCallC settings list start budget)
+      → RunPromise (settingsIn settings) list start budget (c .memory) (c .log) (c .memory′) (c .log′) (reportIn (c .report′))
+  pub labelled : {settings list : List ℕ} {start budget : ℕ} (c : LabelledCallC settings list start budget)
+      → LabelledRunPromise (settingsIn settings) list start budget (c .memory) (c .labels) (c .log) (c .memory′) (c .labels′) (c .log′) (reportIn (c .report′))
+  pub plainLent : {settings list : List ℕ} {start budget : ℕ} (c : PlainCallC settings list start budget)
       → drop reportNumbers (c .report′) ≡ drop reportNumbers (c .report)
-  pub labelledLent : {order addressSize : ℕ} {list : List ℕ} {start budget : ℕ} (c : LabelledCallC order addressSize list start budget)
+  pub labelledLent : {settings list : List ℕ} {start budget : ℕ} (c : LabelledCallC settings list start budget)
       → drop reportNumbers (c .report′) ≡ drop reportNumbers (c .report)
 
 -- ---- what follows
 
 -- What a C call left.
-abbrev pub leftC : {order addressSize : ℕ} {list : List ℕ} {start budget : ℕ} → LabelledCallC order addressSize list start budget → Outcome
+abbrev pub leftC : {settings list : List ℕ} {start budget : ℕ} → LabelledCallC settings list start budget → Outcome
 leftC c = labelledOutcome (reportIn (c .report′)) (c .memory′) (c .labels′) (c .log′)
 
 -- What a C call of the plain run left.
-abbrev pub plainLeftC : {order addressSize : ℕ} {list : List ℕ} {start budget : ℕ} → PlainCallC order addressSize list start budget → Outcome
+abbrev pub plainLeftC : {settings list : List ℕ} {start budget : ℕ} → PlainCallC settings list start budget → Outcome
 plainLeftC c = plainOutcome (reportIn (c .report′)) (c .memory′) (c .log′)
 
 -- Noninterference of C calls: the labelled calls show the same; where the ending isn't LEAK (31), a plain call that is lent the same leaves
 -- what the labelled call left.
 abbrev pub NoninterferenceC : Type 0
-NoninterferenceC = (order addressSize : ℕ) (list : List ℕ) (start budget : ℕ) (first second : LabelledCallC order addressSize list start budget)
-    (firstPlain secondPlain : PlainCallC order addressSize list start budget)
+NoninterferenceC = (settings list : List ℕ) (start budget : ℕ) (first second : LabelledCallC settings list start budget)
+    (firstPlain secondPlain : PlainCallC settings list start budget)
     → first .labels ≡ second .labels → LowEquivalent (first .labels) (first .memory) (second .memory) → length (first .log) ≡ length (second .log)
     → firstPlain .memory ≡ first .memory → length (firstPlain .log) ≡ length (first .log)
     → secondPlain .memory ≡ second .memory → length (secondPlain .log) ≡ length (second .log)
@@ -105,8 +106,8 @@ NoninterferenceC = (order addressSize : ℕ) (list : List ℕ) (start budget : �
 
 -- Resuming by C calls: one that ended with BUDGET (2), one that resumes it, and one with the two budgets added.
 abbrev pub LabelledResumesC : Type 0
-LabelledResumesC = (order addressSize : ℕ) (list : List ℕ) (start budget further : ℕ) (first : LabelledCallC order addressSize list start budget)
-    (second : LabelledCallC order addressSize list (leftC first .report .index) further) (whole : LabelledCallC order addressSize list start (budget + further))
+LabelledResumesC = (settings list : List ℕ) (start budget further : ℕ) (first : LabelledCallC settings list start budget)
+    (second : LabelledCallC settings list (leftC first .report .index) further) (whole : LabelledCallC settings list start (budget + further))
     → leftC first .report .ending ≡ 2 → second .memory ≡ first .memory′ → second .labels ≡ first .labels′
     → second .log ≡ drop (leftC first .report .logged) (first .log′)
     → whole .memory ≡ first .memory → whole .labels ≡ first .labels → whole .log ≡ first .log
@@ -114,8 +115,8 @@ LabelledResumesC = (order addressSize : ℕ) (list : List ℕ) (start budget fur
 
 -- The same of the plain run.
 abbrev pub PlainResumesC : Type 0
-PlainResumesC = (order addressSize : ℕ) (list : List ℕ) (start budget further : ℕ) (first : PlainCallC order addressSize list start budget)
-    (second : PlainCallC order addressSize list (plainLeftC first .report .index) further) (whole : PlainCallC order addressSize list start (budget + further))
+PlainResumesC = (settings list : List ℕ) (start budget further : ℕ) (first : PlainCallC settings list start budget)
+    (second : PlainCallC settings list (plainLeftC first .report .index) further) (whole : PlainCallC settings list start (budget + further))
     → plainLeftC first .report .ending ≡ 2 → second .memory ≡ first .memory′ → second .log ≡ drop (plainLeftC first .report .logged) (first .log′)
     → whole .memory ≡ first .memory → whole .log ≡ first .log
     → Summed (plainLeftC first) (plainLeftC second) (plainLeftC whole)

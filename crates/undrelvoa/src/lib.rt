@@ -15,12 +15,12 @@ ghost use Rattle.undrelvoa.specs.Buffers.{roomFault};
 ghost use Rattle.undrelvoa.specs.Calls.{AnswerPromise, BuffersPromise, LabelledBuffersPromise};
 ghost use Rattle.undrelvoa.specs.Answers.{verdictWords, shownLength, placeLength, placeWords};
 use operation::layout::Lengths;
-use operation::layout::Settings;
-use operation::report::REPORT_NUMBERS;
 use undrelvoa_faults::of_gather;
+use undrelvoa_faults::of_lengths;
 use undrelvoa_faults::of_scatter;
 use undrelvoa_faults::of_value;
 use words::PLACE_WORDS;
+use words::settings_in;
 use words::write_place;
 use words::write_report;
 
@@ -87,24 +87,21 @@ pub extern "C" fn undrelvoa_scatter(
 
 #[no_mangle]
 pub extern "C" fn undrelvoa_validate(
-    order: u64,
-    address_size: u64,
+    settings: &[u64],
     unique: u64,
     register: u64,
     ram: u64,
     list: &[u64],
     report: &mut [u64],
 ) -> u64
-    ensures answer { λ r. ⌜ AnswerPromise (now (report .entry)) r ⌝ }
-    ensures buffer { λ r. ⌜ now (report .exit) ≡ cond (eqb r 0) (sets (now (report .entry)) 0 (verdictWords order «address_size» unique register ram (now (list .entry)))) (now (report .entry)) ⌝ }
+    ensures answer { λ r. ⌜ AnswerPromise (now (settings .entry)) (now (report .entry)) r ⌝ }
+    ensures buffer { λ r. ⌜ now (report .exit) ≡ cond (eqb r 0) (sets (now (report .entry)) 0 (verdictWords (now (settings .entry)) unique register ram (now (list .entry)))) (now (report .entry)) ⌝ }
 {
-    if report.len() < REPORT_NUMBERS {
-        return 11;
+    let fault = of_lengths(settings.len(), report.len());
+    if fault != 0 {
+        return fault;
     }
-    let settings = Settings {
-        order: order,
-        address_size: address_size,
-    };
+    let settings = settings_in(settings);
     let lengths = Lengths {
         unique: unique,
         register: register,
@@ -117,8 +114,7 @@ pub extern "C" fn undrelvoa_validate(
 
 #[no_mangle]
 pub extern "C" fn undrelvoa_run(
-    order: u64,
-    address_size: u64,
+    settings: &[u64],
     list: &[u64],
     start: u64,
     budget: u32,
@@ -128,18 +124,16 @@ pub extern "C" fn undrelvoa_run(
     log: &mut [u64],
     report: &mut [u64],
 ) -> u64
-    ensures answer { λ r. ⌜ AnswerPromise (now (report .entry)) r ⌝ }
-    ensures buffers { λ r. ⌜ BuffersPromise order «address_size» (now (list .entry)) start budget
+    ensures answer { λ r. ⌜ AnswerPromise (now (settings .entry)) (now (report .entry)) r ⌝ }
+    ensures buffers { λ r. ⌜ BuffersPromise (now (settings .entry)) (now (list .entry)) start budget
         (spaces (now (unique .entry)) (now (register .entry)) (now (ram .entry))) (now (log .entry)) (now (report .entry))
         (spaces (now (unique .exit)) (now (register .exit)) (now (ram .exit))) (now (log .exit)) (now (report .exit)) r ⌝ }
 {
-    if report.len() < REPORT_NUMBERS {
-        return 11;
+    let fault = of_lengths(settings.len(), report.len());
+    if fault != 0 {
+        return fault;
     }
-    let settings = Settings {
-        order: order,
-        address_size: address_size,
-    };
+    let settings = settings_in(settings);
     let ran = interpreter::run(settings, list, start, budget, unique, register, ram, log);
     write_report(report, ran);
     0
@@ -147,8 +141,7 @@ pub extern "C" fn undrelvoa_run(
 
 #[no_mangle]
 pub extern "C" fn undrelvoa_step(
-    order: u64,
-    address_size: u64,
+    settings: &[u64],
     list: &[u64],
     start: u64,
     unique: &mut [u8],
@@ -157,18 +150,16 @@ pub extern "C" fn undrelvoa_step(
     log: &mut [u64],
     report: &mut [u64],
 ) -> u64
-    ensures answer { λ r. ⌜ AnswerPromise (now (report .entry)) r ⌝ }
-    ensures buffers { λ r. ⌜ BuffersPromise order «address_size» (now (list .entry)) start 1
+    ensures answer { λ r. ⌜ AnswerPromise (now (settings .entry)) (now (report .entry)) r ⌝ }
+    ensures buffers { λ r. ⌜ BuffersPromise (now (settings .entry)) (now (list .entry)) start 1
         (spaces (now (unique .entry)) (now (register .entry)) (now (ram .entry))) (now (log .entry)) (now (report .entry))
         (spaces (now (unique .exit)) (now (register .exit)) (now (ram .exit))) (now (log .exit)) (now (report .exit)) r ⌝ }
 {
-    if report.len() < REPORT_NUMBERS {
-        return 11;
+    let fault = of_lengths(settings.len(), report.len());
+    if fault != 0 {
+        return fault;
     }
-    let settings = Settings {
-        order: order,
-        address_size: address_size,
-    };
+    let settings = settings_in(settings);
     let ran = interpreter::step(settings, list, start, unique, register, ram, log);
     write_report(report, ran);
     0
@@ -176,8 +167,7 @@ pub extern "C" fn undrelvoa_step(
 
 #[no_mangle]
 pub extern "C" fn undrelvoa_labelled_run(
-    order: u64,
-    address_size: u64,
+    settings: &[u64],
     list: &[u64],
     start: u64,
     budget: u32,
@@ -190,8 +180,8 @@ pub extern "C" fn undrelvoa_labelled_run(
     log: &mut [u64],
     report: &mut [u64],
 ) -> u64
-    ensures answer { λ r. ⌜ AnswerPromise (now (report .entry)) r ⌝ }
-    ensures buffers { λ r. ⌜ LabelledBuffersPromise order «address_size» (now (list .entry)) start budget
+    ensures answer { λ r. ⌜ AnswerPromise (now (settings .entry)) (now (report .entry)) r ⌝ }
+    ensures buffers { λ r. ⌜ LabelledBuffersPromise (now (settings .entry)) (now (list .entry)) start budget
         (spaces (now (unique .entry)) (now (register .entry)) (now (ram .entry)))
         (spaces (now («unique_labels» .entry)) (now («register_labels» .entry)) (now («ram_labels» .entry)))
         (now (log .entry)) (now (report .entry))
@@ -199,13 +189,11 @@ pub extern "C" fn undrelvoa_labelled_run(
         (spaces (now («unique_labels» .exit)) (now («register_labels» .exit)) (now («ram_labels» .exit)))
         (now (log .exit)) (now (report .exit)) r ⌝ }
 {
-    if report.len() < REPORT_NUMBERS {
-        return 11;
+    let fault = of_lengths(settings.len(), report.len());
+    if fault != 0 {
+        return fault;
     }
-    let settings = Settings {
-        order: order,
-        address_size: address_size,
-    };
+    let settings = settings_in(settings);
     let ran = interpreter::labelled_run(
         settings,
         list,
@@ -225,8 +213,7 @@ pub extern "C" fn undrelvoa_labelled_run(
 
 #[no_mangle]
 pub extern "C" fn undrelvoa_labelled_step(
-    order: u64,
-    address_size: u64,
+    settings: &[u64],
     list: &[u64],
     start: u64,
     unique: &mut [u8],
@@ -238,8 +225,8 @@ pub extern "C" fn undrelvoa_labelled_step(
     log: &mut [u64],
     report: &mut [u64],
 ) -> u64
-    ensures answer { λ r. ⌜ AnswerPromise (now (report .entry)) r ⌝ }
-    ensures buffers { λ r. ⌜ LabelledBuffersPromise order «address_size» (now (list .entry)) start 1
+    ensures answer { λ r. ⌜ AnswerPromise (now (settings .entry)) (now (report .entry)) r ⌝ }
+    ensures buffers { λ r. ⌜ LabelledBuffersPromise (now (settings .entry)) (now (list .entry)) start 1
         (spaces (now (unique .entry)) (now (register .entry)) (now (ram .entry)))
         (spaces (now («unique_labels» .entry)) (now («register_labels» .entry)) (now («ram_labels» .entry)))
         (now (log .entry)) (now (report .entry))
@@ -247,13 +234,11 @@ pub extern "C" fn undrelvoa_labelled_step(
         (spaces (now («unique_labels» .exit)) (now («register_labels» .exit)) (now («ram_labels» .exit)))
         (now (log .exit)) (now (report .exit)) r ⌝ }
 {
-    if report.len() < REPORT_NUMBERS {
-        return 11;
+    let fault = of_lengths(settings.len(), report.len());
+    if fault != 0 {
+        return fault;
     }
-    let settings = Settings {
-        order: order,
-        address_size: address_size,
-    };
+    let settings = settings_in(settings);
     let ran = interpreter::labelled_step(
         settings,
         list,

@@ -1,4 +1,4 @@
-// Answers in lent words.
+// Settings and answers in lent words.
 ghost use mathlib.Core.Path.{_≡_};
 ghost use mathlib.Core.Bool.{cond};
 ghost use mathlib.Core.List.{[], _∷_};
@@ -7,13 +7,26 @@ ghost use lib.Dec.{eqb};
 ghost use lib.ListN.{length};
 ghost use lib.Seq.{sets};
 ghost use Rattle.operation.specs.Numbers.{reportNumbers};
-ghost use Rattle.undrelvoa.specs.Buffers.{reportWords};
+ghost use Rattle.undrelvoa_faults.specs.Faults.{settingsWords};
+ghost use Rattle.undrelvoa.specs.Buffers.{reportWords, settingsIn};
 ghost use Rattle.undrelvoa.specs.Answers.{placeLength};
 use integer::boolean::pick;
+use operation::layout::Settings;
 use operation::report::Report;
 
 // Words of a place.
 pub(crate) const PLACE_WORDS: usize = 3;
+
+// The settings in their words.
+pub(crate) fn settings_in(words: &[u64]) -> Settings
+    requires { ⌜ length (now words) ≡ settingsWords ⌝ }
+    ensures { λ r. ⌜ r ≡ settingsIn (now (words .entry)) ⌝ }
+{
+    Settings {
+        order: words[0],
+        address_size: words[1],
+    }
+}
 
 // Writes the words of a report.
 pub(crate) fn write_report(words: &mut [u64], report: Report)

@@ -9,7 +9,8 @@ use Rattle.word.specs.Word.{isSize}
 use Rattle.arithmetic.specs.Opcodes.{firstInteger, lastInteger, hasPlace}
 use Rattle.arithmetic.specs.Operands.{divides, sizesAgree, Operands}
 use Rattle.integer.proofs.Booleans.{both, passed}
-use Rattle.undrelvoa_faults.specs.Faults.{noAddress, sizesPresent, valueFault, gatherFault, scatterFault}
+use Rattle.operation.specs.Numbers.{reportNumbers}
+use Rattle.undrelvoa_faults.specs.Faults.{noAddress, sizesPresent, valueFault, gatherFault, scatterFault, settingsWords, lengthFault}
 
 one-to-eight : (n : ℕ) → isSize n ≡ true → (1 ≤ n) × (n ≤ 8)
 unfolding isSize
@@ -99,3 +100,10 @@ scatter-passed order length offset size value e =
     let t3 = passed (not (leb (offset + size) length && ltb value (256 ^ size))) 24 0 (omega arith) (t2 .1) in
     let v = both (leb (offset + size) length) (ltb value (256 ^ size)) (not-false (leb (offset + size) length && ltb value (256 ^ size)) (t3 .0)) in
     (size-most size (not-false (isSize size) (t2 .0)), leb-true (offset + size) length (v .0))
+
+pub lengths-passed : (settings report : ℕ) → lengthFault settings report ≡ 0 → (settings ≡ settingsWords) × (reportNumbers ≤ report)
+unfolding lengthFault
+lengths-passed settings report e =
+    let t = passed (not (eqb settings settingsWords && leb reportNumbers report)) 11 0 (omega arith) e in
+    let v = both (eqb settings settingsWords) (leb reportNumbers report) (not-false (eqb settings settingsWords && leb reportNumbers report) (t .0)) in
+    (eqb-true settings settingsWords (v .0), leb-true reportNumbers report (v .1))

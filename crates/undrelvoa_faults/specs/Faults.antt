@@ -5,6 +5,7 @@ use lib.Dec.{eqb, leb, ltb}
 use Rattle.word.specs.Word.{isSize}
 use Rattle.arithmetic.specs.Opcodes.{firstInteger, lastInteger, hasPlace}
 use Rattle.arithmetic.specs.Operands.{divides, sizesAgree}
+use Rattle.operation.specs.Numbers.{reportNumbers}
 
 -- Sizes of output, input0 and input1; an operation without an input1 has size1 = 0.
 unfoldable pub sizesPresent : (opcode size size0 size1 : ℕ) → Bool
@@ -38,3 +39,11 @@ scatterFault order length offset size value =
     cond (not (leb order 1)) 10
     (cond (not (isSize size)) 22
     (cond (not (leb (offset + size) length && ltb value (256 ^ size))) 24 0))
+
+-- Words of the settings: byte order, address size.
+abbrev pub settingsWords : ℕ
+settingsWords = 2
+
+-- undrelvoa_validate, the runs and the steps, by the words of settings and report. All else that can be wrong is an ending of the report.
+unfoldable pub lengthFault : (settings report : ℕ) → ℕ
+lengthFault settings report = cond (not (eqb settings settingsWords && leb reportNumbers report)) 11 0

@@ -1,6 +1,6 @@
 // What is wrong with a call of the C interface, by its number; 0 where nothing is. Each test is total, so that a new one is one line.
 ghost use mathlib.Core.Path.{_≡_};
-ghost use Rattle.undrelvoa_faults.specs.Faults.{sizesPresent, valueFault, gatherFault, scatterFault};
+ghost use Rattle.undrelvoa_faults.specs.Faults.{sizesPresent, valueFault, gatherFault, scatterFault, lengthFault};
 use arithmetic::opcodes::FIRST_INTEGER;
 use arithmetic::opcodes::LAST_INTEGER;
 use arithmetic::opcodes::has_place;
@@ -9,12 +9,16 @@ use arithmetic::operands::sizes_agree;
 use integer::boolean::both;
 use integer::boolean::pick;
 use integer::boolean::pick_test;
+use operation::report::REPORT_NUMBERS;
 use word::size::holds;
 use word::size::is_size;
 use word::size::within;
 
 // No integer operation looks at the address size.
 const NO_ADDRESS: u64 = 0;
+
+// Words of the settings: byte order, address size.
+const SETTINGS_WORDS: usize = 2;
 
 // undrelvoa_value
 pub fn of_value(opcode: u64, size: u64, size0: u64, size1: u64, a: u64, b: u64, room: usize) -> u64
@@ -54,6 +58,14 @@ pub fn of_scatter(order: u64, length: usize, offset: u64, size: u64, value: u64)
     let placed = pick(!both(inside, holds(size, value)), 24, 0);
     let sized = pick(!is_size(size), 22, placed);
     pick(!(order <= 1), 10, sized)
+}
+
+// undrelvoa_validate, the runs and the steps
+pub fn of_lengths(settings: usize, report: usize) -> u64
+    ensures { λ r. ⌜ r ≡ lengthFault settings report ⌝ }
+{
+    let exact = settings == SETTINGS_WORDS;
+    pick(!both(exact, REPORT_NUMBERS <= report), 11, 0)
 }
 
 // An operation without an input1 has size1 = 0.

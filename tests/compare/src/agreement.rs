@@ -5,14 +5,14 @@ use std::collections::BTreeMap;
 use std::fmt;
 
 use reference::answers::{
-    gather_answer, scatter_answer, show_answer, value_answer, verdict_answer, Place, ValueCall,
-    VerdictCall,
+    gather_answer, scatter_answer, show_answer, value_answer, verdict_answer, LentWords, Place,
+    ValueCall, VerdictCall,
 };
 use reference::list::WORDS_PER_OPERATION;
 use reference::varnode::Varnode;
 
 use crate::random::Random;
-use crate::{gather, scatter, show, validate, value, Spaces};
+use crate::{gather, scatter, settings_words, show, validate, value, Spaces};
 
 /// Result words of a check. A call is lent the first few; all of them are compared afterwards.
 pub(crate) const RESULT_WORDS: [u64; 8] = [
@@ -145,18 +145,18 @@ pub fn check_scatter(place: &Place, buffer: &mut GuardedBuffer, value: u64) -> u
     answer
 }
 
-/// Compares a call of the judge that is lent `report_len` words. Gives back the report, unless the
-/// call was refused.
-pub fn check_verdict(call: &VerdictCall, report_len: u64) -> Option<[u64; 5]> {
-    let report_len = report_len as usize;
-    let report = verdict_answer(call, report_len);
+/// Compares a call of the judge that is lent so many words. Gives back the report, unless the call
+/// was refused.
+pub fn check_verdict(call: &VerdictCall, lent: LentWords) -> Option<[u64; 5]> {
+    let report = verdict_answer(call, lent);
     let expected = Outcome::expected(report);
     let mut result = RESULT_WORDS;
-    let answer = validate(call, &mut result[..report_len]);
+    let settings = settings_words(&call.settings);
+    let answer = validate(call, &settings[..lent.settings], &mut result[..lent.report]);
     let found = Outcome { answer, result };
     if found != expected {
         panic!(
-            "the verdict disagrees with {report_len} report words on\n\
+            "the verdict disagrees with {lent:?} on\n\
              {}\
              interpreter: {found}\n\
              second program: {expected}",

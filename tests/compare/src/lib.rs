@@ -10,6 +10,7 @@ pub mod runs;
 
 use reference::answers::{Place, RunCall, ValueCall, VerdictCall};
 use reference::varnode::Varnode;
+use reference::verdict::Settings;
 
 pub use reference::memory::Spaces;
 
@@ -46,8 +47,8 @@ extern "C" {
     ) -> u64;
 
     fn undrelvoa_validate(
-        order: u64,
-        address_size: u64,
+        settings: *const u64,
+        settings_len: usize,
         unique_len: u64,
         register_len: u64,
         ram_len: u64,
@@ -72,8 +73,8 @@ extern "C" {
     ) -> u64;
 
     fn undrelvoa_run(
-        order: u64,
-        address_size: u64,
+        settings: *const u64,
+        settings_len: usize,
         list: *const u64,
         list_len: usize,
         start: u64,
@@ -91,8 +92,8 @@ extern "C" {
     ) -> u64;
 
     fn undrelvoa_labelled_run(
-        order: u64,
-        address_size: u64,
+        settings: *const u64,
+        settings_len: usize,
         list: *const u64,
         list_len: usize,
         start: u64,
@@ -116,8 +117,8 @@ extern "C" {
     ) -> u64;
 
     fn undrelvoa_step(
-        order: u64,
-        address_size: u64,
+        settings: *const u64,
+        settings_len: usize,
         list: *const u64,
         list_len: usize,
         start: u64,
@@ -134,8 +135,8 @@ extern "C" {
     ) -> u64;
 
     fn undrelvoa_labelled_step(
-        order: u64,
-        address_size: u64,
+        settings: *const u64,
+        settings_len: usize,
         list: *const u64,
         list_len: usize,
         start: u64,
@@ -160,8 +161,7 @@ extern "C" {
 
 /// The interpreter's answer to a call of `undrelvoa_value`.
 pub fn value(call: &ValueCall, result: &mut [u64]) -> u64 {
-    // SAFETY: the pointer and the length are those of one slice, lent to this call alone. The
-    // pointer of an empty slice is not null.
+    // SAFETY: the pointer and the length are those of one slice, lent to this call alone.
     unsafe {
         undrelvoa_value(
             call.opcode,
@@ -179,7 +179,7 @@ pub fn value(call: &ValueCall, result: &mut [u64]) -> u64 {
 /// The interpreter's answer to a call of `undrelvoa_gather`.
 pub fn gather(place: &Place, bytes: &[u8], result: &mut [u64]) -> u64 {
     // SAFETY: each pointer and length are those of one slice, lent to this call alone; the two
-    // slices do not overlap. The pointer of an empty slice is not null.
+    // slices do not overlap.
     unsafe {
         undrelvoa_gather(
             place.order,
@@ -195,8 +195,7 @@ pub fn gather(place: &Place, bytes: &[u8], result: &mut [u64]) -> u64 {
 
 /// The interpreter's answer to a call of `undrelvoa_scatter`.
 pub fn scatter(place: &Place, bytes: &mut [u8], value: u64) -> u64 {
-    // SAFETY: the pointer and the length are those of one slice, lent to this call alone. The
-    // pointer of an empty slice is not null.
+    // SAFETY: the pointer and the length are those of one slice, lent to this call alone.
     unsafe {
         undrelvoa_scatter(
             place.order,
@@ -209,14 +208,19 @@ pub fn scatter(place: &Place, bytes: &mut [u8], value: u64) -> u64 {
     }
 }
 
+/// The words of settings, and words behind them. A call is lent the first few.
+pub fn settings_words(settings: &Settings) -> [u64; 4] {
+    [settings.order, settings.address_size, 1, 8]
+}
+
 /// The interpreter's answer to a call of `undrelvoa_validate`.
-pub fn validate(call: &VerdictCall, report: &mut [u64]) -> u64 {
-    // SAFETY: each pointer and length are those of one slice, lent to this call alone; the two
-    // slices do not overlap. The pointer of an empty slice is not null.
+pub fn validate(call: &VerdictCall, settings: &[u64], report: &mut [u64]) -> u64 {
+    // SAFETY: each pointer and length are those of one slice, lent to this call alone; the three
+    // slices do not overlap.
     unsafe {
         undrelvoa_validate(
-            call.settings.order,
-            call.settings.address_size,
+            settings.as_ptr(),
+            settings.len(),
             call.lengths.unique,
             call.lengths.register,
             call.lengths.ram,
@@ -231,7 +235,7 @@ pub fn validate(call: &VerdictCall, report: &mut [u64]) -> u64 {
 /// The interpreter's answer to a call of `undrelvoa_show`.
 pub fn show(spaces: &Spaces, varnode: &Varnode, place: &mut [u64]) -> u64 {
     // SAFETY: each pointer and length are those of one slice, lent to this call alone; the four
-    // slices do not overlap. The pointer of an empty slice is not null.
+    // slices do not overlap.
     unsafe {
         undrelvoa_show(
             spaces.unique.as_ptr(),
@@ -257,13 +261,19 @@ pub struct LentSpaces<'a> {
 }
 
 /// The interpreter's answer to a call of `undrelvoa_run`.
-pub fn run(call: &RunCall, memory: LentSpaces, log: &mut [u64], report: &mut [u64]) -> u64 {
-    // SAFETY: each pointer and length are those of one slice, lent to this call alone; the six
-    // slices do not overlap. The pointer of an empty slice is not null.
+pub fn run(
+    call: &RunCall,
+    settings: &[u64],
+    memory: LentSpaces,
+    log: &mut [u64],
+    report: &mut [u64],
+) -> u64 {
+    // SAFETY: each pointer and length are those of one slice, lent to this call alone; the seven
+    // slices do not overlap.
     unsafe {
         undrelvoa_run(
-            call.program.settings.order,
-            call.program.settings.address_size,
+            settings.as_ptr(),
+            settings.len(),
             call.program.list.as_ptr(),
             call.program.list.len(),
             call.start,
@@ -285,17 +295,18 @@ pub fn run(call: &RunCall, memory: LentSpaces, log: &mut [u64], report: &mut [u6
 /// The interpreter's answer to a call of `undrelvoa_labelled_run`.
 pub fn labelled_run(
     call: &RunCall,
+    settings: &[u64],
     memory: LentSpaces,
     labels: LentSpaces,
     log: &mut [u64],
     report: &mut [u64],
 ) -> u64 {
-    // SAFETY: each pointer and length are those of one slice, lent to this call alone; the nine
-    // slices do not overlap. The pointer of an empty slice is not null.
+    // SAFETY: each pointer and length are those of one slice, lent to this call alone; the ten
+    // slices do not overlap.
     unsafe {
         undrelvoa_labelled_run(
-            call.program.settings.order,
-            call.program.settings.address_size,
+            settings.as_ptr(),
+            settings.len(),
             call.program.list.as_ptr(),
             call.program.list.len(),
             call.start,
@@ -321,13 +332,19 @@ pub fn labelled_run(
 }
 
 /// The interpreter's answer to a call of `undrelvoa_step`, which takes no budget.
-pub fn step(call: &RunCall, memory: LentSpaces, log: &mut [u64], report: &mut [u64]) -> u64 {
-    // SAFETY: each pointer and length are those of one slice, lent to this call alone; the six
-    // slices do not overlap. The pointer of an empty slice is not null.
+pub fn step(
+    call: &RunCall,
+    settings: &[u64],
+    memory: LentSpaces,
+    log: &mut [u64],
+    report: &mut [u64],
+) -> u64 {
+    // SAFETY: each pointer and length are those of one slice, lent to this call alone; the seven
+    // slices do not overlap.
     unsafe {
         undrelvoa_step(
-            call.program.settings.order,
-            call.program.settings.address_size,
+            settings.as_ptr(),
+            settings.len(),
             call.program.list.as_ptr(),
             call.program.list.len(),
             call.start,
@@ -348,17 +365,18 @@ pub fn step(call: &RunCall, memory: LentSpaces, log: &mut [u64], report: &mut [u
 /// The interpreter's answer to a call of `undrelvoa_labelled_step`, which takes no budget.
 pub fn labelled_step(
     call: &RunCall,
+    settings: &[u64],
     memory: LentSpaces,
     labels: LentSpaces,
     log: &mut [u64],
     report: &mut [u64],
 ) -> u64 {
-    // SAFETY: each pointer and length are those of one slice, lent to this call alone; the nine
-    // slices do not overlap. The pointer of an empty slice is not null.
+    // SAFETY: each pointer and length are those of one slice, lent to this call alone; the ten
+    // slices do not overlap.
     unsafe {
         undrelvoa_labelled_step(
-            call.program.settings.order,
-            call.program.settings.address_size,
+            settings.as_ptr(),
+            settings.len(),
             call.program.list.as_ptr(),
             call.program.list.len(),
             call.start,

@@ -4,7 +4,7 @@ use std::array::from_fn;
 use std::ops::Range;
 use std::sync::LazyLock;
 
-use reference::answers::VerdictCall;
+use reference::answers::{LentWords, VerdictCall};
 use reference::list::{list_of, varnode, Entry, WORDS_PER_OPERATION};
 use reference::opcodes::{Opcode, Operation, Sizes, OPERATIONS};
 use reference::varnode::{Lengths, Varnode, CONSTANT, RAM, REGISTER, UNIQUE};
@@ -73,12 +73,16 @@ impl Generator {
         Generator { random }
     }
 
-    /// How many words to lend for a report: once in a while too few.
-    pub fn report_len(&mut self) -> u64 {
+    /// How many words to lend: once in a while too few for a report, or another number for settings.
+    pub fn lent_words(&mut self) -> LentWords {
+        let LentWords { settings, report } = LentWords::EXACT;
         if self.random.once_in(20) {
-            return self.random.below(5);
+            return LentWords { settings, report: self.random.below(5) as usize };
         }
-        5 + self.random.below(4)
+        let report = report + self.random.below(4) as usize;
+        let settings =
+            if self.random.once_in(20) { self.random.pick(&[0, 1, 3, 4]) } else { settings };
+        LentWords { settings, report }
     }
 
     /// A call with a random list, damaged more often than not.

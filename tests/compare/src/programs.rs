@@ -1,7 +1,7 @@
 //! Random programs to run, with their memory, labels and log: well-formed ones that end in every way,
 //! and damaged ones for every refusal.
 
-use reference::answers::{RunCall, VerdictCall};
+use reference::answers::{LentWords, RunCall, VerdictCall};
 use reference::arithmetic::fits;
 use reference::bytes::{write, ByteOrder};
 use reference::list::{list_of, varnode, Entry};
@@ -47,9 +47,9 @@ impl Programs {
         &mut self.lists.random
     }
 
-    /// How many words to lend for a report: once in a while too few.
-    pub fn report_len(&mut self) -> u64 {
-        self.lists.report_len()
+    /// How many words to lend for settings and report.
+    pub fn lent_words(&mut self) -> LentWords {
+        self.lists.lent_words()
     }
 
     /// A case, damaged once in three times.

@@ -2,14 +2,14 @@
 
 use std::fmt;
 
-use reference::answers::{run_answer, RunCall};
+use reference::answers::{run_answer, LentWords, RunCall};
 use reference::list::WORDS_PER_OPERATION;
 use reference::machine::State;
 use reference::memory::Spaces;
 use reference::opcodes::Opcode;
 
 use crate::agreement::RESULT_WORDS;
-use crate::{labelled_run, labelled_step, run, step, LentSpaces};
+use crate::{labelled_run, labelled_step, run, settings_words, step, LentSpaces};
 
 /// Which of the interpreter's calls to make: each has a plain and a labelled form.
 #[derive(Clone, Copy, Debug, PartialEq, Eq)]
@@ -105,7 +105,13 @@ impl GuardedSpaces {
 
 /// The interpreter's answer to a run or a step. Every buffer is lent between guards; a changed guard
 /// is a failure.
-pub fn interpreter_answer(job: Job, call: &RunCall, state: &mut State, report: &mut [u64]) -> u64 {
+pub fn interpreter_answer(
+    job: Job,
+    call: &RunCall,
+    settings: &[u64],
+    state: &mut State,
+    report: &mut [u64],
+) -> u64 {
     let mut memory = GuardedSpaces::around(&state.memory);
     let mut labels = state.labels.as_ref().map(GuardedSpaces::around);
     let mut log = Guarded::around(&state.log, guard_word);
@@ -113,10 +119,14 @@ pub fn interpreter_answer(job: Job, call: &RunCall, state: &mut State, report: &
     let answer = {
         let (memory, log, report) = (memory.lent(), log.lent(), guarded_report.lent());
         match (job, labels.as_mut()) {
-            (Job::Run, None) => run(call, memory, log, report),
-            (Job::Step, None) => step(call, memory, log, report),
-            (Job::Run, Some(labels)) => labelled_run(call, memory, labels.lent(), log, report),
-            (Job::Step, Some(labels)) => labelled_step(call, memory, labels.lent(), log, report),
+            (Job::Run, None) => run(call, settings, memory, log, report),
+            (Job::Step, None) => step(call, settings, memory, log, report),
+            (Job::Run, Some(labels)) => {
+                labelled_run(call, settings, memory, labels.lent(), log, report)
+            }
+            (Job::Step, Some(labels)) => {
+                labelled_step(call, settings, memory, labels.lent(), log, report)
+            }
         }
     };
     let guards = [
@@ -137,28 +147,28 @@ pub fn interpreter_answer(job: Job, call: &RunCall, state: &mut State, report: &
 
 /// The interpreter's report of a run or a step that is lent all five report words.
 pub fn interpreter_report(job: Job, case: &mut Case) -> [u64; 5] {
-    let mut report = [0; 5];
-    let answer = interpreter_answer(job, &case.call, &mut case.state, &mut report);
+    let mut report = [0; LentWords::EXACT.report];
+    let settings = &settings_words(&case.call.program.settings)[..LentWords::EXACT.settings];
+    let answer = interpreter_answer(job, &case.call, settings, &mut case.state, &mut report);
     assert_eq!(answer, 0, "a call with a report of five words was refused");
     report
 }
 
-/// Compares a run or a step that is lent `report_len` words, with every buffer after it; what it left
-/// stays in `state`. Gives back the report, unless the call was refused, and names each operation
+/// Compares a run or a step that is lent so many words, with every buffer after it; what it left stays
+/// in `state`. Gives back the report, unless the call was refused, and names each operation
 /// executed to the observer.
 pub fn check_run(
     job: Job,
     call: &RunCall,
     state: &mut State,
-    report_len: u64,
+    lent: LentWords,
     observer: impl FnMut(Opcode),
 ) -> Option<[u64; 5]> {
-    let report_len = report_len as usize;
     let before = state.clone();
     let budget = if job == Job::Step { 1 } else { call.budget };
     let expected_call = RunCall { budget, ..call.clone() };
     let mut expected_state = before.clone();
-    let expected_report = run_answer(&expected_call, &mut expected_state, report_len, observer);
+    let expected_report = run_answer(&expected_call, &mut expected_state, lent, observer);
     let mut expected_words = RESULT_WORDS;
     if let Ok(numbers) = expected_report {
         expected_words[..numbers.len()].copy_from_slice(&numbers);
@@ -166,10 +176,12 @@ pub fn check_run(
     let expected = (expected_report.err().unwrap_or(0), expected_words);
 
     let mut words = RESULT_WORDS;
-    let answer = interpreter_answer(job, call, state, &mut words[..report_len]);
+    let settings = settings_words(&call.program.settings);
+    let settings = &settings[..lent.settings];
+    let answer = interpreter_answer(job, call, settings, state, &mut words[..lent.report]);
     if (answer, words) != expected || *state != expected_state {
         panic!(
-            "the {job:?} disagrees with {report_len} report words on\n\
+            "the {job:?} disagrees with {lent:?} on\n\
              {}\
              interpreter: answer {answer}, report {words:x?}\n{}\
              second program: answer {}, report {:x?}\n{}",

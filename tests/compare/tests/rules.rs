@@ -6,7 +6,7 @@ use compare::inputs::{
     SIZES,
 };
 use compare::lists::{good_entry, plain_entry, PLACES};
-use reference::answers::VerdictCall;
+use reference::answers::{LentWords, VerdictCall};
 use reference::list::{descriptor, list_of, Entry};
 use reference::opcodes::{Operation, Sizes, OPERATIONS};
 use reference::varnode::{Lengths, Varnode, CONSTANT, RAM, REGISTER, UNIQUE};
@@ -22,7 +22,7 @@ const BRANCHES: [&str; 3] = ["BRANCH", "CBRANCH", "CALL"];
 
 /// Compares a call and gives back its ending.
 fn ending(call: &VerdictCall) -> u64 {
-    check_verdict(call, 6).expect("a report of five words")[0]
+    check_verdict(call, LentWords { settings: 2, report: 6 }).expect("a report of five words")[0]
 }
 
 /// Compares a list of these operations and gives back its ending.
@@ -401,7 +401,7 @@ fn first_operation_that_breaks_a_rule_and_the_lowest_it_breaks() {
                 _ => [lowest(first), 0, 0, 0, 0],
             };
             let call = VerdictCall { settings: SETTINGS, lengths: LENGTHS, list };
-            assert_eq!(check_verdict(&call, 5), Some(expected), "{call:x?}");
+            assert_eq!(check_verdict(&call, LentWords::EXACT), Some(expected), "{call:x?}");
             tally.count(expected[0]);
         }
     }
@@ -418,7 +418,7 @@ fn a_malformed_operation_anywhere_in_the_longest_list() {
             entries[index] = cbranch_against(1 << (rule - 21));
             let call =
                 VerdictCall { settings: SETTINGS, lengths: LENGTHS, list: list_of(&entries) };
-            assert_eq!(check_verdict(&call, 5), Some([rule, index as u64, 0, 0, 0]));
+            assert_eq!(check_verdict(&call, LentWords::EXACT), Some([rule, index as u64, 0, 0, 0]));
             tally.count(rule);
         }
     }
@@ -426,17 +426,21 @@ fn a_malformed_operation_anywhere_in_the_longest_list() {
 }
 
 #[test]
-fn short_reports_are_refused_and_long_ones_keep_their_further_words() {
+fn wrong_numbers_of_words_are_refused_and_long_reports_keep_their_further_words() {
     let mut agreed = 0;
     for order in [0, 2] {
         let settings = Settings { order, ..SETTINGS };
         for (list, _) in lists_of_three_endings() {
             let call = VerdictCall { settings, lengths: LENGTHS, list };
-            for report_len in 0..=MOST_RESULT_WORDS {
-                assert_eq!(check_verdict(&call, report_len).is_some(), report_len >= 5);
-                agreed += 1;
+            for report in 0..=MOST_RESULT_WORDS as usize {
+                for settings in 0..=4 {
+                    let lent = LentWords { settings, report };
+                    let accepted = check_verdict(&call, lent).is_some();
+                    assert_eq!(accepted, settings == 2 && report >= 5);
+                    agreed += 1;
+                }
             }
         }
     }
-    println!("verdict, short and long reports: {agreed} agreed");
+    println!("verdict, numbers of words for settings and report: {agreed} agreed");
 }

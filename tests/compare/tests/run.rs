@@ -8,14 +8,14 @@ use compare::campaign::Campaign;
 use compare::programs::Programs;
 use compare::random::Random;
 use compare::runs::{check_run, interpreter_report, Case, Job};
-use reference::answers::RunCall;
+use reference::answers::{LentWords, RunCall};
 use reference::machine::State;
 use reference::memory::{Spaces, SECRET};
 use reference::opcodes::OPERATIONS;
 use reference::run::{Program, BUDGET};
 use reference::verdict::Settings;
 
-/// One program in twenty is lent too short a report.
+/// One program in twenty is lent too short a report, and one in twenty other settings than two words.
 const RANDOM_RUNS: u64 = 500_000;
 const STEPPED_RUNS: u64 = 50_000;
 const MEMORY_PAIRS: u64 = 100_000;
@@ -54,14 +54,14 @@ fn random_runs(name: &str, form: fn(&Case) -> Case, endings: &[u64]) {
         let mut programs = Programs::new(random);
         let Case { call, mut state } = form(&programs.case());
         let count = |opcode| executed.count(opcode as u64);
-        let report_len = programs.report_len();
-        match check_run(Job::Run, &call, &mut state, report_len, count) {
+        let lent = programs.lent_words();
+        match check_run(Job::Run, &call, &mut state, lent, count) {
             Some([ending, ..]) => tally.count(ending),
             None => refused += 1,
         }
     }
     println!(
-        "{name}, random programs: {campaign}, {tally}, {refused} refused for a short report\n\
+        "{name}, random programs: {campaign}, {tally}, {refused} refused for their words\n\
          {name}, operations executed: {}",
         by_name(&executed)
     );
@@ -86,9 +86,9 @@ fn random_labelled_runs() {
 fn check_steps(mut case: Case, programs: &mut Programs, tally: &mut Tally) {
     const MOST_STEPS: u64 = 10;
     for _ in 0..MOST_STEPS {
-        let report_len = programs.report_len();
-        let report = check_run(Job::Step, &case.call, &mut case.state, report_len, |_| ());
-        // A step that was refused for a short report can be taken again.
+        let lent = programs.lent_words();
+        let report = check_run(Job::Step, &case.call, &mut case.state, lent, |_| ());
+        // A step that was refused for its words can be taken again.
         let Some([ending, index, ..]) = report else { continue };
         tally.count(ending);
         if ending != BUDGET {
@@ -296,9 +296,9 @@ fn plain_case(operations: &[[u64; 5]], start: u64, budget: u32, memory: Spaces) 
 fn check_both(case: Case) -> ([u64; 5], State) {
     let mut labelled = case.state.clone();
     labelled.labels = Some(Spaces::of_lengths(&labelled.memory.lengths()));
-    let report = check_run(Job::Run, &case.call, &mut labelled, 5, |_| ());
+    let report = check_run(Job::Run, &case.call, &mut labelled, LentWords::EXACT, |_| ());
     let mut plain = case.state;
-    assert_eq!(check_run(Job::Run, &case.call, &mut plain, 5, |_| ()), report);
+    assert_eq!(check_run(Job::Run, &case.call, &mut plain, LentWords::EXACT, |_| ()), report);
     assert_eq!((&plain.memory, &plain.log), (&labelled.memory, &labelled.log));
     (report.expect("a report of five words"), plain)
 }

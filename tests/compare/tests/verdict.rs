@@ -6,7 +6,7 @@ use std::fmt;
 use compare::agreement::{check_verdict, Tally};
 use compare::campaign::Campaign;
 use compare::lists::{entry_at, good_entry, Generator};
-use reference::answers::VerdictCall;
+use reference::answers::{LentWords, VerdictCall};
 use reference::list::list_of;
 use reference::opcodes::{Operation, OPERATIONS};
 use reference::varnode::Lengths;
@@ -115,7 +115,7 @@ fn well_formed_lists_pass() {
     for (_, random) in campaign.by_ref() {
         let call = Generator::new(random).well_formed_call();
         let count = call.list.len() as u64 / 5;
-        assert_eq!(check_verdict(&call, 5), Some([0, count, 0, 0, 0]), "{call:x?}");
+        assert_eq!(check_verdict(&call, LentWords::EXACT), Some([0, count, 0, 0, 0]), "{call:x?}");
     }
     println!("verdict, well-formed lists: {campaign}, {} agreed", campaign.drawn());
 }
@@ -130,7 +130,7 @@ fn random_lists() {
     for (_, random) in campaign.by_ref() {
         let mut generator = Generator::new(random);
         let call = generator.call();
-        let Some(report) = check_verdict(&call, generator.report_len()) else {
+        let Some(report) = check_verdict(&call, generator.lent_words()) else {
             refused += 1;
             continue;
         };
@@ -138,7 +138,7 @@ fn random_lists() {
         coverage.count(&call.list, &report);
     }
     println!(
-        "verdict, random lists: {campaign}, {tally}, {refused} refused for a short report\n\
+        "verdict, random lists: {campaign}, {tally}, {refused} refused for their words\n\
          verdict, the operations of well-formed lists, and the malformed ones by rule:\n\
          {coverage}"
     );
@@ -153,7 +153,7 @@ fn random_lists() {
 /// Compares a list in these spaces and gives back its ending and index.
 fn judge(lengths: Lengths, list: Vec<u64>) -> [u64; 2] {
     let settings = Settings { order: 0, address_size: 4 };
-    let report = check_verdict(&VerdictCall { settings, lengths, list }, 5);
+    let report = check_verdict(&VerdictCall { settings, lengths, list }, LentWords::EXACT);
     let [ending, index, executed, log_words, value] = report.expect("a report of five words");
     assert_eq!([executed, log_words, value], [0, 0, 0]);
     [ending, index]

@@ -44,6 +44,29 @@ pub struct RunCall {
     pub budget: u32,
 }
 
+/// How many words a caller lends for the settings and for the report of a verdict or a run.
+#[derive(Clone, Copy, Debug, PartialEq, Eq)]
+pub struct LentWords {
+    pub settings: usize,
+    pub report: usize,
+}
+
+impl LentWords {
+    /// Byte order and address size; five numbers of a report.
+    pub const EXACT: LentWords = LentWords { settings: 2, report: 5 };
+
+    /// Refuses settings of another number of words, and too short a report.
+    fn check(self) -> Result<(), u64> {
+        let fits = self.settings == LentWords::EXACT.settings;
+        let fits = fits && self.report >= LentWords::EXACT.report;
+        if fits {
+            Ok(())
+        } else {
+            Err(fault::LENGTH)
+        }
+    }
+}
+
 /// The value of an operation, for a caller who lends `result_len` result words.
 pub fn value_answer(call: &ValueCall, result_len: usize) -> Result<u64, u64> {
     if result_len == 0 {
@@ -103,25 +126,20 @@ pub fn scatter_answer(place: &Place, bytes: &mut [u8], value: u64) -> Result<(),
     Ok(())
 }
 
-/// The report of the judge, for a caller who lends `report_len` report words.
-pub fn verdict_answer(call: &VerdictCall, report_len: usize) -> Result<[u64; 5], u64> {
-    if report_len < 5 {
-        return Err(fault::LENGTH);
-    }
+/// The report of the judge, for a caller who lends so many words.
+pub fn verdict_answer(call: &VerdictCall, lent: LentWords) -> Result<[u64; 5], u64> {
+    lent.check()?;
     Ok(verdict(&call.settings, &call.lengths, &call.list).numbers())
 }
 
-/// The report of a run, labelled if the state has labels, for a caller who lends `report_len` report
-/// words. Each operation executed is named to the observer. A refused call leaves the state as it is.
+/// The report of a run, labelled if the state has labels, for a caller who lends so many words. Each operation executed is named to the observer. A refused call leaves the state as it is.
 pub fn run_answer(
     call: &RunCall,
     state: &mut State,
-    report_len: usize,
+    lent: LentWords,
     observer: impl FnMut(Opcode),
 ) -> Result<[u64; 5], u64> {
-    if report_len < 5 {
-        return Err(fault::LENGTH);
-    }
+    lent.check()?;
     Ok(observed_run(&call.program, call.start, call.budget, state, observer).numbers())
 }
 
@@ -241,20 +259,24 @@ mod tests {
         let settings = Settings { order: 2, address_size: 9 };
         let lengths = Lengths { unique: 0, register: 0, ram: 0 };
         let call = VerdictCall { settings, lengths, list: vec![0; 3] };
-        assert_eq!(verdict_answer(&call, 4), Err(11));
-        assert_eq!(verdict_answer(&call, 5), Ok([10, 0, 0, 0, 0]));
+        assert_eq!(verdict_answer(&call, LentWords { settings: 2, report: 4 }), Err(11));
+        assert_eq!(verdict_answer(&call, LentWords { settings: 1, report: 5 }), Err(11));
+        assert_eq!(verdict_answer(&call, LentWords { settings: 3, report: 5 }), Err(11));
+        assert_eq!(verdict_answer(&call, LentWords::EXACT), Ok([10, 0, 0, 0, 0]));
     }
 
     #[test]
-    fn a_run_with_a_short_report_is_refused() {
+    fn a_run_with_a_short_report_or_other_settings_is_refused() {
         let settings = Settings { order: 0, address_size: 8 };
         let copy = vec![0x11_21_01, 0, 9, 0, 0];
         let call = RunCall { program: Program { settings, list: copy }, start: 0, budget: 1 };
         let memory = Spaces { unique: vec![0], register: vec![], ram: vec![] };
         let mut state = State { memory, labels: None, log: vec![] };
-        assert_eq!(run_answer(&call, &mut state, 4, |_| ()), Err(11));
-        assert_eq!(state.memory.unique, [0]);
-        assert_eq!(run_answer(&call, &mut state, 5, |_| ()), Ok([0, 1, 1, 0, 0]));
+        for lent in [LentWords { settings: 2, report: 4 }, LentWords { settings: 3, report: 5 }] {
+            assert_eq!(run_answer(&call, &mut state, lent, |_| ()), Err(11));
+            assert_eq!(state.memory.unique, [0]);
+        }
+        assert_eq!(run_answer(&call, &mut state, LentWords::EXACT, |_| ()), Ok([0, 1, 1, 0, 0]));
         assert_eq!(state.memory.unique, [9]);
     }
 
