@@ -12,13 +12,8 @@ const LOOP: &str = "run_labelled::run_any";
 
 /// The functions of the archive beside those of the C interface. `value` alone is called by an operation; the C interface calls
 /// it too.
-const CALLED: [&str; 5] = [
-    LOOP,
-    "arithmetic::value",
-    "runs::labelled_run",
-    "runs::run",
-    "validation::first_malformed",
-];
+const CALLED: [&str; 5] =
+    [LOOP, "arithmetic::value", "runs::labelled_run", "runs::run", "validation::first_malformed"];
 
 #[test]
 fn no_function_of_the_loop_is_called() {

@@ -59,7 +59,7 @@ impl CaseProgram {
 
     /// Gives the program a text in parts of at most `part_len` bytes.
     pub fn run(&self, text: &[u8], part_len: usize) -> Printed {
-        let mut child = self.start(Stdio::piped(), Stdio::piped());
+        let mut child = self.start(&[], Stdio::piped(), Stdio::piped());
         let stdin = child.stdin.take().expect("a pipe to write to");
         thread::scope(|scope| {
             scope.spawn(move || feed(stdin, text, part_len));
@@ -69,12 +69,22 @@ impl CaseProgram {
 
     /// Runs the program with streams of the caller's.
     pub fn run_with(&self, stdin: impl Into<Stdio>, stdout: impl Into<Stdio>) -> Printed {
-        finish(self.start(stdin.into(), stdout.into()))
+        finish(self.start(&[], stdin.into(), stdout.into()))
     }
 
-    fn start(&self, stdin: Stdio, stdout: Stdio) -> Child {
+    /// Runs the program with arguments, and with an input that stays open and gives nothing until the
+    /// program has ended.
+    pub fn run_with_arguments(&self, arguments: &[&str]) -> Printed {
+        let mut child = self.start(arguments, Stdio::piped(), Stdio::piped());
+        let open = child.stdin.take();
+        let printed = finish(child);
+        drop(open);
+        printed
+    }
+
+    fn start(&self, arguments: &[&str], stdin: Stdio, stdout: Stdio) -> Child {
         let mut command = Command::new(&self.path);
-        command.stdin(stdin).stdout(stdout).stderr(Stdio::piped());
+        command.args(arguments).stdin(stdin).stdout(stdout).stderr(Stdio::piped());
         command.spawn().unwrap_or_else(|error| panic!("{} does not start: {error}", self.name()))
     }
 }

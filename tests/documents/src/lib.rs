@@ -3,6 +3,7 @@
 
 pub mod declared;
 pub mod edits;
+pub mod header;
 pub mod links;
 pub mod machine;
 pub mod markdown;

@@ -3,7 +3,7 @@
 use crate::markdown::{fences_are_closed, lines_outside_fences, link_targets, take_apart};
 use crate::repository::Repository;
 
-const FOLDERS: [&str; 5] = ["crates/", "tests/", "docs/", "include/", ".ci/"];
+const FOLDERS: [&str; 6] = ["crates/", "tests/", "docs/", "examples/", "include/", ".ci/"];
 
 pub fn problems(repository: &Repository) -> Vec<String> {
     let mut problems = Vec::new();
@@ -26,7 +26,8 @@ pub fn problems(repository: &Repository) -> Vec<String> {
 fn is_document(path: &str) -> bool {
     let in_docs =
         path.strip_prefix("docs/").is_some_and(|name| name.ends_with(".md") && !name.contains('/'));
-    in_docs || path == "README.md" || path == "CONTRIBUTING.md"
+    let at_top = path.ends_with(".md") && !path.contains('/');
+    in_docs || at_top || path.ends_with("/README.md")
 }
 
 /// What the line names and the repository does not have.

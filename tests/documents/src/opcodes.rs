@@ -1,14 +1,13 @@
 //! The opcode table of the reference says what the table of the definition says, row by row, and the C
 //! header has the same names and numbers.
 
+use crate::header::{enumerators, C_HEADER};
 use crate::markdown::take_apart;
 use crate::reference::DOCUMENT;
 use crate::repository::Repository;
 use crate::tables::tables;
-use std::collections::BTreeMap;
 
 const DEFINITION: &str = "crates/arithmetic/specs/Opcodes.antt";
-const C_HEADER: &str = "include/undrelvoa.h";
 const HEADER: [&str; 7] = ["Rule", "Opcode", "Name", "Output", "Inputs", "Sizes", "Meaning"];
 
 /// What a table says of an opcode.
@@ -156,7 +155,7 @@ fn differences_of_row(row: &Opcode, opcode: &Opcode) -> Vec<String> {
 
 /// The C header names every opcode or none.
 fn problems_of_header(defined: &[Opcode], text: &str) -> Vec<String> {
-    let named = opcodes_of_header(text);
+    let named = enumerators(text, "undrelvoa_opcode", "UNDRELVOA_");
     if named.is_empty() {
         return Vec::new();
     }
@@ -172,18 +171,6 @@ fn problems_of_header(defined: &[Opcode], text: &str) -> Vec<String> {
         problems.push(format!("{C_HEADER}: {DEFINITION} has no opcode {name}"));
     }
     problems
-}
-
-fn opcodes_of_header(text: &str) -> BTreeMap<String, u64> {
-    let lines = text.lines().skip_while(|line| !line.starts_with("enum undrelvoa_opcode"));
-    let entries = lines.skip(1).take_while(|line| !line.starts_with('}'));
-    let pairs =
-        entries.filter_map(|line| line.trim().strip_prefix("UNDRELVOA_")?.split_once(" = "));
-    pairs
-        .filter_map(|(name, number)| {
-            Some((name.to_string(), number.trim_end_matches(',').parse().ok()?))
-        })
-        .collect()
 }
 
 #[cfg(test)]

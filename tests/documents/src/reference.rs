@@ -10,7 +10,8 @@ use std::fmt;
 pub const DOCUMENT: &str = "docs/REFERENCE.md";
 const EXAMPLES: [&str; 4] = ["Number", "Breaks", "Line", "What is wrong"];
 const EXAMPLE_NUMBERS: std::ops::RangeInclusive<u64> = 21..=26;
-const WORKED: [&str; 2] = ["cases/operations/worked-example/input", "cases/operations/worked-example/output"];
+const WORKED: [&str; 2] =
+    ["cases/operations/worked-example/input", "cases/operations/worked-example/output"];
 
 /// The number of a rule: its chapter, and its place in the chapter.
 #[derive(Debug, Clone, Copy, PartialEq, Eq, PartialOrd, Ord)]

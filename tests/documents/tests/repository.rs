@@ -1,7 +1,7 @@
 //! The checks, on the repository that this package stands in.
 
 use documents::repository::Repository;
-use documents::{edits, links, machine, opcodes, promises, reference, trace};
+use documents::{edits, header, links, machine, opcodes, promises, reference, trace};
 use std::env;
 use std::path::Path;
 
@@ -21,6 +21,11 @@ fn the_reference_has_its_rules_in_order_and_its_examples_hold() {
 #[test]
 fn the_opcodes_of_the_reference_are_those_of_the_definition() {
     must_have_no_problem(opcodes::problems);
+}
+
+#[test]
+fn the_header_has_the_numbers_of_the_reference_and_the_version() {
+    must_have_no_problem(header::problems);
 }
 
 #[test]

@@ -1,0 +1,144 @@
+//! The library for Rust: a safe function over the labelled run of the C interface, and what an example
+//! needs of its numbers. The other calls of include/undrelvoa.h go the same way.
+
+/// Byte order and address size.
+pub struct Settings {
+    pub order: u64,
+    pub address_size: u64,
+}
+
+pub const LITTLE: u64 = 0;
+
+/// The address spaces, by number.
+pub const CONSTANT: u64 = 1;
+pub const UNIQUE: u64 = 2;
+pub const REGISTER: u64 = 3;
+pub const RAM: u64 = 4;
+
+/// The opcodes that the examples use.
+pub const COPY: u64 = 1;
+pub const LOAD: u64 = 2;
+pub const INT_XOR: u64 = 28;
+pub const INT_AND: u64 = 29;
+
+/// The labels of a byte.
+pub const PUBLIC: u8 = 0;
+pub const SECRET: u8 = 1;
+
+/// The endings that the examples name.
+pub const END: u64 = 0;
+pub const EXIT: u64 = 1;
+pub const BUDGET: u64 = 2;
+pub const SIZE: u64 = 25;
+pub const LEAK: u64 = 31;
+pub const BOUNDS: u64 = 32;
+
+/// A varnode of an operation: a number of bytes at an offset of a space. In the constant space the offset is the value.
+#[derive(Clone, Copy)]
+pub struct Varnode {
+    pub space: u64,
+    pub offset: u64,
+    pub size: u64,
+}
+
+/// The five words of an operation: its head, and the offsets of output, input0, input1 and input2.
+pub fn operation(opcode: u64, output: Option<Varnode>, inputs: &[Varnode]) -> [u64; 5] {
+    let mut words = [opcode, 0, 0, 0, 0];
+    let places = output.into_iter().map(|varnode| (1, varnode));
+    let places = places.chain((2..=4).zip(inputs.iter().copied()));
+    for (place, varnode) in places {
+        words[0] |= (varnode.space * 16 + varnode.size) << (8 * place);
+        words[place] = varnode.offset;
+    }
+    words
+}
+
+/// How a run ended.
+#[derive(Clone, Copy)]
+pub struct Report {
+    pub ending: u64,
+    pub index: u64,
+    pub executed: u64,
+    pub logged: u64,
+    pub value: u64,
+}
+
+/// The bytes of the three spaces, or their labels.
+pub struct Spaces {
+    pub unique: Vec<u8>,
+    pub register: Vec<u8>,
+    pub ram: Vec<u8>,
+}
+
+// As in include/undrelvoa.h.
+extern "C" {
+    fn undrelvoa_labelled_run(
+        settings: *const u64,
+        settings_len: usize,
+        list: *const u64,
+        list_len: usize,
+        start: u64,
+        budget: u32,
+        unique: *mut u8,
+        unique_len: usize,
+        register_space: *mut u8,
+        register_len: usize,
+        ram: *mut u8,
+        ram_len: usize,
+        unique_labels: *mut u8,
+        unique_labels_len: usize,
+        register_labels: *mut u8,
+        register_labels_len: usize,
+        ram_labels: *mut u8,
+        ram_labels_len: usize,
+        log: *mut u64,
+        log_len: usize,
+        report: *mut u64,
+        report_len: usize,
+    ) -> u64;
+}
+
+/// Runs a list from `start` on, at most `budget` operations. The start of `log` becomes the log words written.
+pub fn labelled_run(
+    settings: &Settings,
+    list: &[u64],
+    start: u64,
+    budget: u32,
+    memory: &mut Spaces,
+    labels: &mut Spaces,
+    log: &mut [u64],
+) -> Report {
+    let settings = [settings.order, settings.address_size];
+    let mut report = [0; 5];
+    // SAFETY: each pointer and length are those of one slice or Vec, and each of those that are written is borrowed by
+    // this call alone, so none overlaps another.
+    let answer = unsafe {
+        undrelvoa_labelled_run(
+            settings.as_ptr(),
+            settings.len(),
+            list.as_ptr(),
+            list.len(),
+            start,
+            budget,
+            memory.unique.as_mut_ptr(),
+            memory.unique.len(),
+            memory.register.as_mut_ptr(),
+            memory.register.len(),
+            memory.ram.as_mut_ptr(),
+            memory.ram.len(),
+            labels.unique.as_mut_ptr(),
+            labels.unique.len(),
+            labels.register.as_mut_ptr(),
+            labels.register.len(),
+            labels.ram.as_mut_ptr(),
+            labels.ram.len(),
+            log.as_mut_ptr(),
+            log.len(),
+            report.as_mut_ptr(),
+            report.len(),
+        )
+    };
+    assert_eq!(answer, 0, "settings and report have the words that the library asks for");
+    let [ending, index, executed, logged, value] = report;
+    Report { ending, index, executed, logged, value }
+}
