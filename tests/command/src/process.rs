@@ -97,6 +97,12 @@ impl Running {
         });
     }
 
+    /// Whether the command's own process is there. One that has ended and is not yet waited for has no
+    /// words.
+    pub fn is_running(&self) -> bool {
+        !command_of(self.child.id()).is_empty()
+    }
+
     /// Sends a signal to the command's process alone.
     pub fn signal(&self, signal: c_int) {
         send(self.child.id(), signal);

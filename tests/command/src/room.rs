@@ -99,7 +99,8 @@ pub const REPORT: &str = "0 0 0 0 0\n";
 const RT: &str = r#"#!/bin/sh
 tools=$(dirname "$0")
 echo "$*" >>"$tools/calls"
-mkdir "$tools/busy" 2>/dev/null || touch "$tools/two at once"
+exec 8>"$tools/busy"
+flock -n 8 || touch "$tools/two at once"
 [ ! -f "$tools/before" ] || . "$tools/before"
 echo 'rt: low proved (unchanged since it was last proved)'
 echo 'fn middle::half: proved'
@@ -114,7 +115,6 @@ else
     echo "rt: case ran as nobody, and wrote what its file 'stdout' has (0 s)"
     echo "$sum" >target/stamp/case
 fi
-rmdir "$tools/busy"
 echo 'rt: ok, 3 crates proved'
 "#;
 
@@ -185,6 +185,15 @@ impl SmallRepository {
     pub fn command_alone(&self) -> Command {
         let mut command = Command::new(self.path("run-case"));
         command.env("PATH", path_with(&self.path("tools"))).stdin(Stdio::null());
+        command
+    }
+
+    /// The same by a shell, with words and redirections of its own behind it; `$case` is the empty case.
+    pub fn shell(&self, words: &str) -> Command {
+        let mut command = Command::new("bash");
+        command.args(["-c", &format!("exec \"$command\" {words}")]).stdin(Stdio::null());
+        command.env("command", self.path("run-case")).env("case", self.path("empty case"));
+        command.env("PATH", path_with(&self.path("tools")));
         command
     }
 

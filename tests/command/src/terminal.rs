@@ -34,7 +34,7 @@ impl Terminal {
     /// Starts a command with this terminal as its own, and as its standard error.
     pub fn start(&self, command: &mut Command) -> Running {
         let name = self.name.clone();
-        command.stderr(self.other_side());
+        command.stderr(self.other_side()).env("TERM", "xterm");
         // SAFETY: it calls nothing that is not allowed between fork and exec.
         unsafe { command.pre_exec(move || take_terminal(&name)) };
         let shown = self.keys.try_clone().expect("a file number");
@@ -55,14 +55,18 @@ impl Default for Terminal {
     }
 }
 
+/// The signs that make a terminal remove what stands behind the place that it writes to.
+pub const REMOVE: &str = "\x1b[K";
+
 /// The lines that are seen where a text was shown: a carriage return goes back to the line's start, and
 /// what comes then is written over what was there.
 pub fn seen(shown: &str) -> Vec<String> {
     let mut lines = vec![Vec::new()];
     let mut column = 0;
-    for one in shown.chars() {
+    for one in shown.replace(REMOVE, "\0").chars() {
         let line = lines.last_mut().expect("one line at least");
         match one {
+            '\0' => line.truncate(column),
             '\r' => column = 0,
             '\n' => {
                 lines.push(Vec::new());
@@ -91,8 +95,8 @@ mod tests {
     fn a_line_that_moves_is_seen_as_it_was_last() {
         assert_eq!(seen("\rone 1\rone 2"), ["one 2"]);
         assert_eq!(seen("\rone two\rsix"), ["six two"]);
-        assert_eq!(seen("\rone\r   \r"), [""; 0]);
-        assert_eq!(seen("\rone\r   \rtwo\r\n"), ["two"]);
+        assert_eq!(seen("\rone\r\x1b[K"), [""; 0]);
+        assert_eq!(seen("\rone\r\x1b[Ktwo\r\n"), ["two"]);
         assert_eq!(seen("one\r\ntwo"), ["one", "two"]);
     }
 }

@@ -11,12 +11,13 @@ use std::{env, io, thread};
 
 use command::messages::messages;
 use command::process::{run, wait_until, Ended, Running};
-use command::room::{own_command, Room, SmallRepository, ENDLESS_CASE, NOBODY, REPORT, WAIT};
+use command::room::{
+    own_command, path_with, Room, SmallRepository, ENDLESS_CASE, NOBODY, REPORT, WAIT,
+};
 use command::system::{is_root, INT};
-use command::terminal::Terminal;
+use command::terminal::{Terminal, REMOVE};
 
-const NOTHING: &str = "";
-
+/// What is done, and what comes of it.
 struct Scenario {
     name: &'static str,
     status: i32,
@@ -25,363 +26,161 @@ struct Scenario {
     run: fn() -> Ended,
 }
 
-/// Scenarios that end before anything is built or run.
-const REFUSED: [Scenario; 16] = [
-    Scenario {
-        name: "output is closed",
-        status: 74,
-        says: "standard output is closed",
-        prints: NOTHING,
-        run: || by_shell(&SmallRepository::new(), "\"$case\" >&-"),
-    },
-    Scenario {
-        name: "all streams are closed",
-        status: 74,
-        says: NOTHING,
-        prints: NOTHING,
-        run: || by_shell(&SmallRepository::new(), "\"$case\" <&- >&- 2>&-"),
-    },
-    Scenario {
-        name: "two arguments",
-        status: 64,
-        says: "2 arguments are too many",
-        prints: NOTHING,
-        run: || run(SmallRepository::new().command().arg("another")),
-    },
-    Scenario {
-        name: "two arguments behind --",
-        status: 64,
-        says: "2 arguments are too many",
-        prints: NOTHING,
-        run: || run(SmallRepository::new().command_alone().args(["--", "one", "another"])),
-    },
-    Scenario {
-        name: "an option that there is not",
-        status: 64,
-        says: "there is no option --verbose",
-        prints: NOTHING,
-        run: || run(SmallRepository::new().command_alone().arg("--verbose")),
-    },
-    Scenario {
-        name: "an empty argument",
-        status: 64,
-        says: "the argument is empty",
-        prints: NOTHING,
-        run: || run(SmallRepository::new().command_alone().arg("")),
-    },
-    Scenario {
-        name: "no such file",
-        status: 66,
-        says: "there is no file gone",
-        prints: NOTHING,
-        run: || run(SmallRepository::new().command_alone().arg("gone")),
-    },
-    Scenario {
-        name: "a link to no file",
-        status: 66,
-        says: "there is no file ",
-        prints: NOTHING,
-        run: || {
-            let small = SmallRepository::new();
-            symlink("gone", small.path("link")).expect("a link");
-            run(small.command_alone().arg(small.path("link")))
-        },
-    },
-    Scenario {
-        name: "a folder",
-        status: 66,
-        says: "crates is a folder",
-        prints: NOTHING,
-        run: || {
-            let small = SmallRepository::new();
-            run(small.command_alone().arg(small.path("crates")))
-        },
-    },
-    Scenario {
-        name: "a file of others",
-        status: 66,
-        says: "may not be read",
-        prints: NOTHING,
-        run: file_of_others,
-    },
-    Scenario {
-        name: "a socket",
-        status: 66,
-        says: "socket cannot be opened",
-        prints: NOTHING,
-        run: || {
-            let small = SmallRepository::new();
-            let path = small.path("socket");
-            let _socket = UnixListener::bind(&path).expect("a socket");
-            run(small.command_alone().arg(path))
-        },
-    },
-    Scenario {
-        name: "input is closed",
-        status: 66,
-        says: "standard input is closed",
-        prints: NOTHING,
-        run: || by_shell(&SmallRepository::new(), "<&-"),
-    },
-    Scenario {
-        name: "input is closed, and - is given",
-        status: 66,
-        says: "standard input is closed",
-        prints: NOTHING,
-        run: || by_shell(&SmallRepository::new(), "- <&-"),
-    },
-    Scenario {
-        name: "input is closed, and /dev/stdin is given",
-        status: 66,
-        says: "there is no file /dev/stdin",
-        prints: NOTHING,
-        run: || by_shell(&SmallRepository::new(), "/dev/stdin <&-"),
-    },
-    Scenario {
-        name: "a copy outside its repository",
-        status: 69,
-        says: "crates.txt or VERSION is missing in ",
-        prints: NOTHING,
-        run: || copy_outside(&["-"]),
-    },
-    Scenario {
-        name: "the version of a copy outside its repository",
-        status: 69,
-        says: "crates.txt or VERSION is missing in ",
-        prints: NOTHING,
-        run: || copy_outside(&["--version"]),
-    },
-];
+type Run = fn() -> Ended;
 
-/// Scenarios of building.
-const BUILT: [Scenario; 14] = [
-    Scenario {
-        name: "crates are proved",
-        status: 0,
-        says: "proved middle in 2 s, 2 of 3 crates",
-        prints: REPORT,
-        run: || run(&mut SmallRepository::new().command()),
-    },
-    Scenario {
-        name: "crates are proved, on a terminal",
-        status: 0,
-        says: "proving the case program, 2 of 3 crates, last middle: ",
-        prints: REPORT,
-        run: || Terminal::new().start(&mut SmallRepository::new().command()).end(),
-    },
-    Scenario {
-        name: "another one builds",
-        status: 0,
-        says: "another run-case builds the case program: waiting for it",
-        prints: REPORT,
-        run: || beside_another(|small| Running::start(&mut small.command())),
-    },
-    Scenario {
-        name: "another one builds, on a terminal",
-        status: 0,
-        says: "another run-case builds the case program, waiting for it: ",
-        prints: REPORT,
-        run: || beside_another(|small| Terminal::new().start(&mut small.command())),
-    },
-    Scenario {
-        name: "no lock can be had",
-        status: 0,
-        says: "crates.txt cannot be locked here",
-        prints: REPORT,
-        run: || {
-            let small = SmallRepository::new();
-            small.room.write_program("tools/flock", "#!/bin/sh\nexit 65\n");
-            run(&mut small.command())
-        },
-    },
-    Scenario {
-        name: "target is a file",
-        status: 69,
-        says: "target is not a folder that can be written",
-        prints: NOTHING,
-        run: || {
+/// A scenario in which nothing is printed.
+fn silent(name: &'static str, status: i32, says: &'static str, run: Run) -> Scenario {
+    Scenario { name, status, says, prints: "", run }
+}
+
+/// A scenario in which the quick program's report is printed.
+fn reporting(name: &'static str, status: i32, says: &'static str, run: Run) -> Scenario {
+    Scenario { name, status, says, prints: REPORT, run }
+}
+
+fn before_building() -> [Scenario; 16] {
+    const CLOSED: &str = "standard input is closed";
+    const OUTSIDE: &str = "crates.txt or VERSION is missing in ";
+    [
+        silent("output is closed", 74, "standard output is closed", || by_shell("\"$case\" >&-")),
+        silent("all streams are closed", 74, "", || by_shell("\"$case\" <&- >&- 2>&-")),
+        silent("two files", 64, "2 arguments are too many", || with_words(&["one", "another"])),
+        silent("two files, --", 64, "2 arguments", || with_words(&["--", "one", "another"])),
+        silent("no such option", 64, "there is no option -v: ", || with_words(&["-v"])),
+        silent("an empty argument", 64, "the argument is empty", || with_words(&[""])),
+        silent("no such file", 66, "there is no file gone, ", || with_words(&["gone"])),
+        silent("a link to no file", 66, "there is no file ", link_to_nothing),
+        silent("a folder", 66, "/ is a folder", || with_words(&["/"])),
+        silent("a file of others", 66, "may not be read", file_of_others),
+        silent("a socket", 66, "socket cannot be opened", socket),
+        silent("input is closed", 66, CLOSED, || by_shell("<&-")),
+        silent("input is closed, -", 66, CLOSED, || by_shell("- <&-")),
+        silent("no /dev/stdin", 66, "no file /dev/stdin", || by_shell("/dev/stdin <&-")),
+        silent("a copy outside its repository", 69, OUTSIDE, || copy_outside(&["-"])),
+        silent("the version of such a copy", 69, OUTSIDE, || copy_outside(&["--version"])),
+    ]
+}
+
+fn while_building() -> [Scenario; 14] {
+    const UNWRITTEN: &str = "target is not a folder that can be written";
+    [
+        reporting("a crate is proved", 0, "proved middle in 2 s, 2 of 3 crates", || {
+            run(&mut SmallRepository::new().command())
+        }),
+        reporting("proving, on a terminal", 0, "program, 2 of 3 crates, last middle: ", || {
+            Terminal::new().start(&mut SmallRepository::new().command()).end()
+        }),
+        reporting("another one builds", 0, "another run-case builds the case program: ", || {
+            beside_another(|small| Running::start(&mut small.command()))
+        }),
+        reporting("the same, on a terminal", 0, "the case program, waiting for it: ", || {
+            beside_another(|small| Terminal::new().start(&mut small.command()))
+        }),
+        reporting("no lock can be had", 0, "crates.txt cannot be locked here", without_locks),
+        silent("target is a file", 69, UNWRITTEN, || {
             let small = SmallRepository::new();
             small.room.write("target", "");
             run(&mut small.command())
-        },
-    },
-    Scenario {
-        name: "target is of others",
-        status: 69,
-        says: "target is not a folder that can be written",
-        prints: NOTHING,
-        run: || of_others("target"),
-    },
-    Scenario {
-        name: "the top is of others",
-        status: 69,
-        says: "target is not a folder that can be written",
-        prints: NOTHING,
-        run: || of_others(""),
-    },
-    Scenario {
-        name: "a folder in target is of others",
-        status: 69,
-        says: "target/log is not a folder that can be written",
-        prints: NOTHING,
-        run: || of_others("target/log"),
-    },
-    Scenario {
-        name: "no rt",
-        status: 69,
-        says: "rt is not on PATH",
-        prints: NOTHING,
-        run: || without("rt"),
-    },
-    Scenario {
-        name: "no flock",
-        status: 69,
-        says: "flock is not on PATH",
-        prints: NOTHING,
-        run: || without("flock"),
-    },
-    Scenario {
-        name: "no setsid",
-        status: 69,
-        says: "setsid is not on PATH",
-        prints: NOTHING,
-        run: || without("setsid"),
-    },
-    Scenario {
-        name: "a proof fails",
-        status: 69,
-        says: "the case program was not built, rt check case ended with status 1: ",
-        prints: NOTHING,
-        run: || {
-            let failing = "echo 'rt: case NOT PROVED (exit 1, 3 s)'\nexit 1\n";
-            run(&mut SmallRepository::new().with_then(failing).command())
-        },
-    },
-    Scenario {
-        name: "no program is made",
-        status: 69,
-        says: "rt check case made no ",
-        prints: NOTHING,
-        run: || run(&mut SmallRepository::new().with_then("exit 0\n").command()),
-    },
-];
+        }),
+        silent("target is of others", 69, UNWRITTEN, || of_others("target")),
+        silent("the top is of others", 69, UNWRITTEN, || of_others("")),
+        silent("a part is of others", 69, "target/log is not a folder", || of_others("target/log")),
+        silent("no rt", 69, "rt is not on PATH", || without("rt")),
+        silent("no flock", 69, "flock is not on PATH", || without("flock")),
+        silent("no setsid", 69, "setsid is not on PATH", || without("setsid")),
+        silent("a proof fails", 69, "not built, rt check case ended with status 1: ", || {
+            run(&mut SmallRepository::new().with_then("exit 1\n").command())
+        }),
+        silent("no program is made", 69, "rt check case made no ", || {
+            run(&mut SmallRepository::new().with_then("exit 0\n").command())
+        }),
+    ]
+}
 
-/// Scenarios of running.
-const RUN: [Scenario; 13] = [
-    Scenario {
-        name: "a full disk",
-        status: 74,
-        says: "standard output cannot be written",
-        prints: NOTHING,
-        run: || by_shell(&SmallRepository::built(), "\"$case\" >/dev/full"),
-    },
-    Scenario {
-        name: "help to a full disk",
-        status: 74,
-        says: "standard output cannot be written",
-        prints: NOTHING,
-        run: || by_shell(&SmallRepository::new(), "--help >/dev/full"),
-    },
-    Scenario {
-        name: "the version to a full disk",
-        status: 74,
-        says: "standard output cannot be written",
-        prints: NOTHING,
-        run: || by_shell(&SmallRepository::new(), "--version >/dev/full"),
-    },
-    Scenario { name: "a pipe that nobody reads", status: 74, says: "standard output cannot be written", prints: NOTHING, run: unread_pipe },
-    Scenario {
-        name: "an output that is only open to read",
-        status: 74,
-        says: "standard output cannot be written",
-        prints: NOTHING,
-        run: || by_shell(&SmallRepository::built(), "\"$case\" 1</dev/null"),
-    },
-    Scenario {
-        name: "a folder as input",
-        status: 74,
-        says: "the case cannot be read, so there is no result (case: standard input cannot be read; nothing was printed)",
-        prints: NOTHING,
-        run: || {
-            let small = SmallRepository::new().with_own_program();
-            run(small.command_alone().stdin(File::open(small.path("crates")).expect("a folder")))
-        },
-    },
-    Scenario {
-        name: "an input that is only open to write",
-        status: 74,
-        says: "the case cannot be read, so there is no result",
-        prints: NOTHING,
-        run: || {
-            let input = OpenOptions::new().write(true).open("/dev/null").expect("a device");
-            run(SmallRepository::new().with_own_program().command_alone().stdin(input))
-        },
-    },
-    Scenario {
-        name: "the case is removed while the program is built",
-        status: 66,
-        says: "empty case can no longer be opened",
-        prints: NOTHING,
-        run: || run(&mut SmallRepository::new().with_first("rm 'empty case'\n").command()),
-    },
-    Scenario {
-        name: "the program is killed",
-        status: 69,
-        says: "the case program did not run to its end, status 137, and there is no result",
-        prints: NOTHING,
-        run: || run(&mut SmallRepository::new().with_program("#!/bin/sh\nkill -KILL $$\n").command()),
-    },
-    Scenario {
-        name: "the program fails",
-        status: 69,
-        says: "the case program did not run to its end, status 3, and there is no result (some reason)",
-        prints: NOTHING,
-        run: || run(&mut SmallRepository::new().with_program("#!/bin/sh\necho some reason >&2\nexit 3\n").command()),
-    },
-    Scenario {
-        name: "the program is killed after its first line",
-        status: 69,
-        says: "the case program did not run to its end, status 137, and what was printed is not complete",
-        prints: REPORT,
-        run: || run(&mut SmallRepository::new().with_program("#!/bin/sh\necho 0 0 0 0 0\nkill -KILL $$\n").command()),
-    },
-    Scenario {
-        name: "a large budget, on a terminal",
-        status: 128 + INT,
-        says: "running the case, ",
-        prints: NOTHING,
-        run: || {
-            let small = SmallRepository::new().with_own_program();
-            let case = small.room.write("endless case", ENDLESS_CASE);
-            let terminal = Terminal::new();
-            let running = terminal.start(small.command_alone().arg(case));
-            running.wait_to_hear("running the case, ");
-            terminal.press("\x03");
-            running.end()
-        },
-    },
-    Scenario {
-        name: "a case from the terminal",
-        status: 0,
-        says: "reading the case from the terminal",
-        prints: REPORT,
-        run: || {
-            let (small, terminal) = (SmallRepository::new(), Terminal::new());
-            let running = terminal.start(small.command_alone().stdin(terminal.other_side()));
-            running.wait_to_hear("reading the case from the terminal");
-            terminal.press("\x04");
-            running.end()
-        },
-    },
-];
+fn while_running() -> [Scenario; 13] {
+    const UNWRITTEN: &str = "standard output cannot be written";
+    const UNREAD: &str = "the case cannot be read, so there is no result (case: standard input cannot be read; nothing was printed)";
+    [
+        silent("a full disk", 74, UNWRITTEN, || by_shell("\"$case\" >/dev/full")),
+        silent("help to a full disk", 74, UNWRITTEN, || by_shell("--help >/dev/full")),
+        silent("the version to a full disk", 74, UNWRITTEN, || by_shell("--version >/dev/full")),
+        silent("output is only open to read", 74, UNWRITTEN, || by_shell("\"$case\" 1</dev/null")),
+        silent("a pipe that nobody reads", 74, UNWRITTEN, unread_pipe),
+        silent("input is a folder", 74, UNREAD, || reading(File::open("/"))),
+        silent("input is only open to write", 74, UNREAD, || {
+            reading(OpenOptions::new().write(true).open("/dev/null"))
+        }),
+        silent("the case goes during the build", 66, "empty case can no longer be opened", || {
+            run(&mut SmallRepository::new().with_first("rm 'empty case'\n").command())
+        }),
+        silent(
+            "the program is killed",
+            69,
+            "to its end, status 137, and there is no result",
+            || with_program("kill -KILL $$"),
+        ),
+        silent("the program fails", 69, "status 3, and there is no result (some reason)", || {
+            with_program("echo some reason >&2; exit 3")
+        }),
+        reporting("it is killed later", 69, "137, and what was printed is not complete", || {
+            with_program("echo 0 0 0 0 0; kill -KILL $$")
+        }),
+        silent("a large budget, on a terminal", 128 + INT, "running the case, ", endless_case),
+        reporting("a case that is typed", 0, "reading the case from the terminal", typed_case),
+    ]
+}
 
-/// `run-case` with words and redirections of the shell behind it.
-fn by_shell(small: &SmallRepository, words: &str) -> Ended {
-    let mut shell = Command::new("bash");
-    shell.args(["-c", &format!("exec \"$command\" {words}")]).stdin(Stdio::null());
-    shell.env("command", small.path("run-case")).env("case", small.path("empty case"));
-    shell.env("PATH", command::room::path_with(&small.path("tools")));
-    run(&mut shell)
+fn with_words(words: &[&str]) -> Ended {
+    run(SmallRepository::new().command_alone().args(words))
+}
+
+fn by_shell(words: &str) -> Ended {
+    run(&mut SmallRepository::new().shell(words))
+}
+
+fn with_program(script: &str) -> Ended {
+    run(&mut SmallRepository::new().with_program(&format!("#!/bin/sh\n{script}\n")).command())
+}
+
+fn reading(input: io::Result<File>) -> Ended {
+    let small = SmallRepository::new().with_own_program();
+    run(small.command_alone().stdin(input.expect("an input that can be opened")))
+}
+
+fn link_to_nothing() -> Ended {
+    let small = SmallRepository::new();
+    symlink("gone", small.path("link")).expect("a link");
+    run(small.command_alone().arg(small.path("link")))
+}
+
+fn socket() -> Ended {
+    let small = SmallRepository::new();
+    let path = small.path("socket");
+    let _socket = UnixListener::bind(&path).expect("a socket");
+    run(small.command_alone().arg(path))
+}
+
+fn without_locks() -> Ended {
+    let small = SmallRepository::new();
+    small.room.write_program("tools/flock", "#!/bin/sh\nexit 65\n");
+    run(&mut small.command())
+}
+
+fn endless_case() -> Ended {
+    let (small, terminal) = (SmallRepository::new().with_own_program(), Terminal::new());
+    let case = small.room.write("endless case", ENDLESS_CASE);
+    let running = terminal.start(small.command_alone().arg(case));
+    running.wait_to_hear("running the case, ");
+    terminal.press("\x03");
+    running.end()
+}
+
+fn typed_case() -> Ended {
+    let (small, terminal) = (SmallRepository::new(), Terminal::new());
+    let running = terminal.start(small.command_alone().stdin(terminal.other_side()));
+    running.wait_to_hear("reading the case from the terminal");
+    terminal.press("\x04");
+    running.end()
 }
 
 /// As somebody who owns nothing of the repository.
@@ -436,56 +235,31 @@ fn beside_another(start: fn(&SmallRepository) -> Running) -> Ended {
 
 /// A build on a machine that lacks one tool.
 fn without(tool: &str) -> Ended {
-    let small = SmallRepository::new();
-    fs::create_dir(small.path("few")).expect("a folder");
-    let path = env::var_os("PATH").unwrap_or_default();
-    for name in [
-        "bash",
-        "dirname",
-        "readlink",
-        "awk",
-        "find",
-        "sort",
-        "xargs",
-        "sha256sum",
-        "rt",
-        "flock",
-        "setsid",
-    ] {
-        let places = env::split_paths(&path).map(|folder| folder.join(name));
-        let place = if name == "rt" {
-            Some(small.path("tools/rt"))
-        } else {
-            places.into_iter().find(|place| place.exists())
-        };
+    let (small, few) = (SmallRepository::new(), Room::new());
+    let path = path_with(&small.path("tools"));
+    let used = "bash dirname readlink awk find sort xargs sha256sum rt flock setsid";
+    for name in used.split(' ').filter(|name| *name != tool) {
+        let place =
+            env::split_paths(&path).map(|folder| folder.join(name)).find(|place| place.exists());
         let place = place.unwrap_or_else(|| panic!("{name} is not on PATH"));
-        if name != tool {
-            symlink(place, small.path("few").join(name)).expect("a link");
-        }
+        symlink(place, few.path().join(name)).expect("a link");
     }
-    let mut command = Command::new("bash");
-    command.arg(small.path("run-case")).arg(small.path("empty case"));
-    run(command.stdin(Stdio::null()).env("PATH", small.path("few")))
+    run(small.command().env("PATH", few.path()))
 }
 
 fn unread_pipe() -> Ended {
-    let small = SmallRepository::built();
     let (reader, writer) = io::pipe().expect("a pipe");
     drop(reader);
-    // The command's own output is read by the test, so a shell stands between.
-    let mut shell = Command::new("bash");
-    shell.args(["-c", "exec \"$command\" \"$case\" >&0"]).stdin(writer);
-    shell.env("command", small.path("run-case")).env("case", small.path("empty case"));
-    run(&mut shell)
+    // The test reads the command's own output, so the pipe comes in another way.
+    run(SmallRepository::new().shell("\"$case\" >&0").stdin(writer))
 }
 
 /// Fails unless a scenario ended as it should, and returns what was told.
 fn check(scenario: &Scenario) -> Vec<String> {
     let ended = (scenario.run)();
     // A terminal shows a key too.
-    let lines =
-        ended.stderr.split(['\r', '\n']).map(|line| line.trim_end_matches("^C").to_string());
-    let told: Vec<String> = lines.collect();
+    let shown = ended.stderr.replace(REMOVE, "").replace("^C", "");
+    let told: Vec<String> = shown.split(['\r', '\n']).map(str::to_string).collect();
     let says =
         told.iter().any(|line| line.starts_with("run-case: ") && line.contains(scenario.says));
     assert!(
@@ -501,7 +275,9 @@ fn check(scenario: &Scenario) -> Vec<String> {
 
 #[test]
 fn every_message_has_a_scenario() {
-    let scenarios: Vec<&Scenario> = REFUSED.iter().chain(&BUILT).chain(&RUN).collect();
+    let mut scenarios = Vec::from(before_building());
+    scenarios.extend(while_building());
+    scenarios.extend(while_running());
     let told = Mutex::new(Vec::new());
     let next = AtomicUsize::new(0);
     thread::scope(|scope| {
