@@ -23,7 +23,7 @@ struct Scenario {
     status: i32,
     says: &'static str,
     prints: &'static str,
-    run: fn() -> Ended,
+    run: Run,
 }
 
 type Run = fn() -> Ended;
@@ -38,7 +38,7 @@ fn reporting(name: &'static str, status: i32, says: &'static str, run: Run) -> S
     Scenario { name, status, says, prints: REPORT, run }
 }
 
-fn before_building() -> [Scenario; 16] {
+fn before_building() -> impl IntoIterator<Item = Scenario> {
     const CLOSED: &str = "standard input is closed";
     const OUTSIDE: &str = "crates.txt or VERSION is missing in ";
     [
@@ -61,7 +61,7 @@ fn before_building() -> [Scenario; 16] {
     ]
 }
 
-fn while_building() -> [Scenario; 14] {
+fn while_building() -> impl IntoIterator<Item = Scenario> {
     const UNWRITTEN: &str = "target is not a folder that can be written";
     [
         reporting("a crate is proved", 0, "proved middle in 2 s, 2 of 3 crates", || {
@@ -91,13 +91,16 @@ fn while_building() -> [Scenario; 14] {
         silent("a proof fails", 69, "not built, rt check case ended with status 1: ", || {
             run(&mut SmallRepository::new().with_then("exit 1\n").command())
         }),
+        silent("rt is killed", 69, "not built, rt check case ended with status 137: ", || {
+            run(&mut SmallRepository::new().with_first("kill -KILL $$\n").command())
+        }),
         silent("no program is made", 69, "rt check case made no ", || {
             run(&mut SmallRepository::new().with_then("exit 0\n").command())
         }),
     ]
 }
 
-fn while_running() -> [Scenario; 13] {
+fn while_running() -> impl IntoIterator<Item = Scenario> {
     const UNWRITTEN: &str = "standard output cannot be written";
     const UNREAD: &str = "the case cannot be read, so there is no result (case: standard input cannot be read; nothing was printed)";
     [
@@ -113,12 +116,15 @@ fn while_running() -> [Scenario; 13] {
         silent("the case goes during the build", 66, "empty case can no longer be opened", || {
             run(&mut SmallRepository::new().with_first("rm 'empty case'\n").command())
         }),
-        silent(
-            "the program is killed",
-            69,
-            "to its end, status 137, and there is no result",
-            || with_program("kill -KILL $$"),
-        ),
+        silent("a program that prints nothing", 74, "no result (nothing was printed)", || {
+            with_program("exit 0")
+        }),
+        silent("the program is killed", 69, "end, status 137, and there is no result", || {
+            with_program("kill -KILL $$")
+        }),
+        silent("another program", 69, "status 141, and there is no result (y)", || {
+            with_program("exec yes")
+        }),
         silent("the program fails", 69, "status 3, and there is no result (some reason)", || {
             with_program("echo some reason >&2; exit 3")
         }),
@@ -260,6 +266,11 @@ fn check(scenario: &Scenario) -> Vec<String> {
     // A terminal shows a key too.
     let shown = ended.stderr.replace(REMOVE, "").replace("^C", "");
     let told: Vec<String> = shown.split(['\r', '\n']).map(str::to_string).collect();
+    for line in told.iter().filter(|line| !line.is_empty()) {
+        // Where a proof fails, rt's lines are shown.
+        let known = ["run-case: ", "rt: ", "fn "].iter().any(|start| line.starts_with(start));
+        assert!(known, "{}: who says {line:?}?", scenario.name);
+    }
     let says =
         told.iter().any(|line| line.starts_with("run-case: ") && line.contains(scenario.says));
     assert!(
@@ -275,7 +286,7 @@ fn check(scenario: &Scenario) -> Vec<String> {
 
 #[test]
 fn every_message_has_a_scenario() {
-    let mut scenarios = Vec::from(before_building());
+    let mut scenarios: Vec<Scenario> = before_building().into_iter().collect();
     scenarios.extend(while_building());
     scenarios.extend(while_running());
     let told = Mutex::new(Vec::new());
