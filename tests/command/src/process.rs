@@ -76,7 +76,7 @@ impl Running {
     pub fn start_with(command: &mut Command, stderr: Option<Stream>) -> Running {
         static COUNT: AtomicU32 = AtomicU32::new(0);
         let mark = format!("{}-{}", std::process::id(), COUNT.fetch_add(1, Ordering::Relaxed));
-        command.env(MARK, &mark).env_remove("COLUMNS").stdout(Stdio::piped());
+        command.env(MARK, &mark).stdout(Stdio::piped());
         // SAFETY: it calls nothing that is not allowed between fork and exec.
         unsafe { command.pre_exec(hear_signals) };
         let mut child = command.spawn().unwrap_or_else(|error| panic!("{command:?}: {error}"));
@@ -90,11 +90,15 @@ impl Running {
         wait_until(&format!("{text:?} on standard error"), || self.stderr.text().contains(text));
     }
 
+    /// How many processes that came from it have this in their command.
+    pub fn count(&self, words: &str) -> usize {
+        let processes = marked(&self.mark).into_iter();
+        processes.filter(|&process| command_of(process).contains(words)).count()
+    }
+
     /// Waits until a process that came from it has this in its command.
     pub fn wait_for_process(&self, words: &str) {
-        wait_until(&format!("a process {words:?}"), || {
-            marked(&self.mark).iter().any(|&process| command_of(process).contains(words))
-        });
+        wait_until(&format!("a process {words:?}"), || self.count(words) > 0);
     }
 
     /// Whether the command's own process is there. One that has ended and is not yet waited for has no

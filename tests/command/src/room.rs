@@ -7,8 +7,11 @@ use std::os::unix::fs::PermissionsExt;
 use std::path::{Path, PathBuf};
 use std::process::{Command, Stdio};
 use std::sync::atomic::{AtomicU32, Ordering};
+use std::sync::Once;
 
 use cases::process::repository;
+
+use crate::process::run;
 
 /// The number of the user who owns nothing.
 pub const NOBODY: u32 = 65534;
@@ -72,6 +75,16 @@ impl Drop for Room {
 /// The repository's own `run-case`.
 pub fn own_command() -> PathBuf {
     repository().join("run-case")
+}
+
+/// The same, with its program built: the first call builds where that is needed, and says so.
+pub fn own_built_command() -> PathBuf {
+    static BUILT: Once = Once::new();
+    BUILT.call_once(|| {
+        let ended = run(Command::new(own_command()).stdin(Stdio::null()));
+        assert_eq!(ended.stdout, "41 1 0 0 0\n", "run-case on an empty case: {}", ended.stderr);
+    });
+    own_command()
 }
 
 /// The case program that the repository's proofs made.
@@ -146,7 +159,7 @@ impl SmallRepository {
     /// With the program built.
     pub fn built() -> SmallRepository {
         let small = SmallRepository::new();
-        let ended = crate::process::run(&mut small.command());
+        let ended = run(&mut small.command());
         assert_eq!((ended.status, ended.stdout.as_str()), (0, REPORT), "{}", ended.stderr);
         small
     }

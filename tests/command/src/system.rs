@@ -13,7 +13,9 @@ pub const PIPE: c_int = 13;
 pub const TERM: c_int = 15;
 
 const READ_AND_WRITE: c_int = 0o2;
-const NOT_CONTROLLING: c_int = 0o400;
+/// A terminal that is opened so does not become that of who opens it.
+pub const NOT_CONTROLLING: c_int = 0o400;
+
 const CLOSED_IN_CHILDREN: c_int = 0o2_000_000;
 const DEFAULT_ACTION: usize = 0;
 

@@ -4,11 +4,12 @@ use std::ffi::{CString, OsStr};
 use std::fs::{File, OpenOptions};
 use std::io::Write;
 use std::os::unix::ffi::OsStrExt;
+use std::os::unix::fs::OpenOptionsExt;
 use std::os::unix::process::CommandExt;
-use std::process::Command;
+use std::process::{Command, Stdio};
 
 use crate::process::{Running, Stream};
-use crate::system::{new_terminal, take_terminal};
+use crate::system::{new_terminal, take_terminal, NOT_CONTROLLING};
 
 pub struct Terminal {
     keys: File,
@@ -24,24 +25,33 @@ impl Terminal {
     /// The side that a command reads from and writes to.
     pub fn other_side(&self) -> File {
         let path = OsStr::from_bytes(self.name.as_bytes());
-        // The tests' own session must not get it.
-        const NOT_CONTROLLING: i32 = 0o400;
         let mut options = OpenOptions::new();
-        std::os::unix::fs::OpenOptionsExt::custom_flags(&mut options, NOT_CONTROLLING);
-        options.read(true).write(true).open(path).expect("the terminal's other side")
+        options.read(true).write(true).custom_flags(NOT_CONTROLLING);
+        options.open(path).expect("the terminal's other side")
     }
 
     /// Starts a command with this terminal as its own, and as its standard error.
     pub fn start(&self, command: &mut Command) -> Running {
+        self.start_as("xterm", command)
+    }
+
+    /// The same with a kind of terminal.
+    pub fn start_as(&self, kind: &str, command: &mut Command) -> Running {
         let name = self.name.clone();
-        command.stderr(self.other_side()).env("TERM", "xterm");
+        command.stderr(self.other_side()).env("TERM", kind);
         // SAFETY: it calls nothing that is not allowed between fork and exec.
         unsafe { command.pre_exec(move || take_terminal(&name)) };
         let shown = self.keys.try_clone().expect("a file number");
         let running = Running::start_with(command, Some(Stream::of(shown)));
         // The command would keep the terminal open, and its text without an end.
-        command.stderr(std::process::Stdio::null()).stdin(std::process::Stdio::null());
+        command.stderr(Stdio::null()).stdin(Stdio::null());
         running
+    }
+
+    pub fn set_width(&self, columns: usize) {
+        let mut stty = Command::new("stty");
+        stty.args(["rows", "24", "cols", &columns.to_string()]).stdin(self.other_side());
+        assert!(stty.status().expect("stty").success(), "the terminal keeps its width");
     }
 
     pub fn press(&self, keys: &str) {

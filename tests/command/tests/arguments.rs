@@ -9,7 +9,7 @@ use std::process::{Command, Stdio};
 use cases::process::repository;
 use cases::tally::ENDINGS;
 use command::process::{run, wait_until, Ended, Running};
-use command::room::{own_command, path_with, Room};
+use command::room::{own_built_command, path_with, Room};
 use command::system::TERM;
 
 /// A stored case whose output has several lines, and its ending 0.
@@ -27,9 +27,8 @@ fn assert_result(ended: &Ended, what: &str) {
     assert_eq!((ended.status, ended.stderr.as_str()), (0, ""), "{what}");
 }
 
-/// The repository's own command, which builds its program on the first call, if at all.
 fn own() -> Command {
-    let mut command = Command::new(own_command());
+    let mut command = Command::new(own_built_command());
     command.stdin(Stdio::null());
     command
 }
@@ -37,7 +36,7 @@ fn own() -> Command {
 fn by_shell(script: &str) -> Ended {
     let mut shell = Command::new("bash");
     shell.args(["-c", script]).stdin(Stdio::null());
-    run(shell.env("command", own_command()).env("input", input()))
+    run(shell.env("command", own_built_command()).env("input", input()))
 }
 
 #[test]
@@ -101,9 +100,14 @@ fn a_named_pipe() {
     File::options().write(true).open(&pipe).expect("a pipe").write_all(&text).expect("a reader");
     assert_result(&running.end(), "a named pipe");
 
-    // One that nobody writes to is waited for, and the command can be ended.
+    // One that nobody writes to is waited for, by a process beside the command's, and the command can be
+    // ended. Before that there is a second process for moments only.
     let running = Running::start(own().arg(&pipe));
-    running.wait_for_process("named pipe");
+    let mut in_a_row = 0;
+    wait_until("a process waits for the pipe", || {
+        in_a_row = if running.count("named pipe") == 2 { in_a_row + 1 } else { 0 };
+        in_a_row == 20
+    });
     running.signal(TERM);
     assert_eq!(running.end().status, 128 + TERM);
 }
@@ -126,7 +130,7 @@ fn links_on_the_search_path() {
     };
     let link = |to: &Path, at: &Path| symlink(to, at).expect("a link");
     let (absolute, relative, chain) = (folder("absolute"), folder("relative"), folder("a chain"));
-    link(&fs::canonicalize(own_command()).expect("run-case"), &absolute.join("run-case"));
+    link(&fs::canonicalize(own_built_command()).expect("run-case"), &absolute.join("run-case"));
     link(Path::new("../absolute/run-case"), &relative.join("run-case"));
     link(&relative.join("run-case"), &room.path().join("middle"));
     link(Path::new("../middle"), &chain.join("run-case"));
@@ -169,10 +173,4 @@ fn version() {
     let ended = run(own().arg("--version"));
     assert_eq!((ended.status, ended.stderr.as_str()), (0, ""));
     assert_eq!(ended.stdout, format!("undrelvoa {version}"));
-}
-
-#[test]
-fn nothing_but_the_result() {
-    wait_until("the program is built", || run(own().arg(input())).status == 0);
-    assert_result(&run(own().arg(input())), "a program that is built");
 }

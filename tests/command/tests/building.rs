@@ -117,6 +117,14 @@ fn a_program_of_other_sources_is_built() {
 }
 
 #[test]
+fn sources_that_change_during_the_build_are_built() {
+    let edit = "[ -e \"$tools/edited\" ] || echo '// more' | tee \"$tools/edited\" >>crates/low/src/lib.rt\n";
+    let small = SmallRepository::new().with_then(edit);
+    told(&small);
+    assert_builds(&small, "a source that changed during the build");
+}
+
+#[test]
 fn a_moved_repository_is_fresh() {
     let (small, room) = (SmallRepository::built(), Room::new());
     let moved = room.path().join("moved here");
@@ -216,6 +224,24 @@ fn one_line_moves_while_proving() {
     assert_moved(&ended, &texts.each_ref().map(String::as_str));
     let waiting = ended.stderr.matches("2 of 3 crates").count();
     assert!(waiting >= 2, "no second is shown while a crate is proved: {:?}", ended.stderr);
+}
+
+#[test]
+fn the_line_fits_the_terminal() {
+    let (small, terminal) = (SmallRepository::new(), Terminal::new());
+    terminal.set_width(30);
+    let ended = terminal.start(&mut small.command()).end();
+    assert_moved(&ended, &["proving the"]);
+    let longest = ended.stderr.replace(REMOVE, "").split('\r').map(str::len).max();
+    assert!(longest <= Some(30), "{:?}", ended.stderr);
+}
+
+#[test]
+fn a_plain_terminal_shows_lines() {
+    let small = SmallRepository::new();
+    let ended = Terminal::new().start_as("dumb", &mut small.command()).end();
+    let lines = ["proved middle in 2 s, 2 of 3 crates", "proved case in 3 s, 3 of 3 crates"];
+    assert_eq!(ended.stderr, lines.map(|line| format!("run-case: {line}\r\n")).concat());
 }
 
 #[test]

@@ -79,8 +79,7 @@ fn what_does_not_end_is_killed() {
 
 #[test]
 fn ended_while_waiting_for_another() {
-    let (small, terminal) = (building(), Terminal::new());
-    let small = small.with_then(WAIT);
+    let (small, terminal) = (SmallRepository::new().with_then(WAIT), Terminal::new());
     let first = Running::start(&mut small.command());
     wait_for_rt(&small);
     for signal in [INT, TERM, HUP] {
@@ -102,6 +101,7 @@ fn ended_while_waiting_for_another() {
 #[test]
 fn ended_while_a_case_runs() {
     let small = SmallRepository::new().with_own_program();
+    assert_eq!(run(&mut small.command()).stdout, "41 1 0 0 0\n");
     let case = small.room.write("endless case", ENDLESS_CASE);
     for signal in [INT, TERM, HUP] {
         let running = Running::start(small.command_alone().arg(&case));

@@ -9,12 +9,12 @@ use cases::process::repository;
 use cases::stored::{read, StoredCase};
 use cases::tally::{ending, Tally, ENDINGS};
 use command::process::run;
-use command::room::own_command;
+use command::room::own_built_command;
 
 /// Fails unless a case prints what is stored, and its ending is the exit status.
 fn check(name: &str, case: &StoredCase) {
     let file = repository().join("cases").join(name).join("input");
-    let ended = run(Command::new(own_command()).arg(file).stdin(Stdio::null()));
+    let ended = run(Command::new(own_built_command()).arg(file).stdin(Stdio::null()));
     let printed = ended.stdout.as_bytes();
     assert!(printed == case.output, "cases/{name}: printed {}\n{}", ended.stdout, ended.stderr);
     let number = ending(printed).expect("a report begins with its ending");
