@@ -108,7 +108,9 @@ fn while_running() -> impl IntoIterator<Item = Scenario> {
         silent("help to a full disk", 74, UNWRITTEN, || by_shell("--help >/dev/full")),
         silent("the version to a full disk", 74, UNWRITTEN, || by_shell("--version >/dev/full")),
         silent("output is only open to read", 74, UNWRITTEN, || by_shell("\"$case\" 1</dev/null")),
-        silent("a pipe that nobody reads", 74, UNWRITTEN, unread_pipe),
+        silent("a pipe that nobody reads", 74, UNWRITTEN, || unread("\"$case\"")),
+        silent("help that nobody reads", 74, UNWRITTEN, || unread("--help")),
+        silent("a version that nobody reads", 74, UNWRITTEN, || unread("--version")),
         silent("input is a folder", 74, UNREAD, || reading(File::open("/"))),
         silent("input is only open to write", 74, UNREAD, || {
             reading(OpenOptions::new().write(true).open("/dev/null"))
@@ -253,11 +255,12 @@ fn without(tool: &str) -> Ended {
     run(small.command().env("PATH", few.path()))
 }
 
-fn unread_pipe() -> Ended {
+/// Output to a pipe that nobody reads.
+fn unread(words: &str) -> Ended {
     let (reader, writer) = io::pipe().expect("a pipe");
     drop(reader);
     // The test reads the command's own output, so the pipe comes in another way.
-    run(SmallRepository::new().shell("\"$case\" >&0").stdin(writer))
+    run(SmallRepository::new().shell(&format!("{words} >&0")).stdin(writer))
 }
 
 /// Fails unless a scenario ended as it should, and returns what was told.

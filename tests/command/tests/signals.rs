@@ -155,3 +155,17 @@ fn a_killed_command_keeps_the_lock_while_its_provers_run() {
     assert_eq!((ended.status, ended.stdout.as_str()), (0, REPORT), "{}", ended.stderr);
     small.calls();
 }
+
+#[test]
+fn the_program_of_a_killed_command_ends_when_it_prints() {
+    let small = SmallRepository::new();
+    let go = small.path("tools/go").display().to_string();
+    let script = format!("#!/bin/sh\nuntil [ -e '{go}' ]; do sleep 0.05; done\nexec yes\n");
+    let small = small.with_program(&script);
+    let running = Running::start(&mut small.command());
+    running.wait_for_process("/target/bin/case");
+    running.signal(KILL);
+    wait_until("the command is gone", || !running.is_running());
+    small.go_on();
+    assert_eq!(running.end().status, 128 + KILL);
+}
