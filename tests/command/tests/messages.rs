@@ -67,15 +67,27 @@ fn while_building() -> impl IntoIterator<Item = Scenario> {
         reporting("a crate is proved", 0, "proved middle in 2 s, 2 of 3 crates", || {
             run(&mut SmallRepository::new().command())
         }),
+        reporting(
+            "a first crate that takes long",
+            0,
+            "building the case program, 3 crates, ",
+            || run(&mut SmallRepository::new().with_first("sleep 4\n").command()),
+        ),
         reporting("proving, on a terminal", 0, "program, 2 of 3 crates, last middle: ", || {
             Terminal::new().start(&mut SmallRepository::new().command()).end()
         }),
-        reporting("another one builds", 0, "another run-case builds the case program: ", || {
-            beside_another(|small| Running::start(&mut small.command()))
-        }),
-        reporting("the same, on a terminal", 0, "the case program, waiting for it: ", || {
-            beside_another(|small| Terminal::new().start(&mut small.command()))
-        }),
+        reporting(
+            "another one builds",
+            0,
+            "waiting for another run-case, or the gate, to build in target/",
+            || beside_another(|small| Running::start(&mut small.command())),
+        ),
+        reporting(
+            "the same, on a terminal",
+            0,
+            "waiting for another run-case, or the gate, to build: ",
+            || beside_another(|small| Terminal::new().start(&mut small.command())),
+        ),
         reporting("no lock can be had", 0, "crates.txt cannot be locked here", without_locks),
         silent("target is a file", 69, UNWRITTEN, || {
             let small = SmallRepository::new();
@@ -235,7 +247,7 @@ fn beside_another(start: fn(&SmallRepository) -> Running) -> Ended {
     let first = Running::start(&mut small.command());
     wait_until("rt is called", || small.has("tools/here"));
     let second = start(&small);
-    second.wait_to_hear("waiting for it");
+    second.wait_to_hear("waiting for another");
     small.go_on();
     assert_eq!((first.end().status, small.calls()), (0, 1));
     second.end()

@@ -84,12 +84,12 @@ fn ended_while_waiting_for_another() {
     wait_for_rt(&small);
     for signal in [INT, TERM, HUP] {
         let second = Running::start(&mut small.command());
-        second.wait_to_hear("waiting for it");
+        second.wait_to_hear("waiting for another");
         second.signal(signal);
         assert_eq!(second.end().status, 128 + signal);
     }
     let second = terminal.start(&mut small.command());
-    second.wait_to_hear("waiting for it");
+    second.wait_to_hear("waiting for another");
     terminal.press("\x03");
     assert_eq!(second.end().status, 128 + INT);
     small.go_on();
@@ -148,7 +148,7 @@ fn a_killed_command_keeps_the_lock_while_its_provers_run() {
     first.signal(KILL);
     wait_until("the first is gone", || !first.is_running());
     let second = Running::start(&mut small.command());
-    second.wait_to_hear("waiting for it");
+    second.wait_to_hear("waiting for another");
     small.go_on();
     assert_eq!(first.end().status, 128 + KILL);
     let ended = second.end();
