@@ -21,7 +21,7 @@ fn main() {
     if 1 < os::arg_count() {
         io::write_all(
             STDERR,
-            b"case: it takes no argument, and nothing was run\nusage: case <FILE, or ./run-case FILE in the repository\nWhat it prints holds the secret bytes in clear.\n",
+            b"case: it takes no argument, and nothing was run\nusage: case <FILE\nIts exit status is always 0: a script uses run-case.\nWhat it prints holds the secret bytes in clear.\n",
         );
         return;
     }

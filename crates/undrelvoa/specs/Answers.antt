@@ -19,10 +19,6 @@ unfoldable pub shownLength : (unique register ram : List ℕ) (space offset size
 shownLength unique register ram space offset size =
     cond (showable (lengthOf (record { unique = length unique; register = length register; ram = length ram }) space) offset size) size 0
 
--- Words of a place.
-abbrev pub placeLength : ℕ
-placeLength = 3
-
 -- Space, offset and number of bytes of the part that is shown; zeros where it is empty.
 unfoldable pub placeWords : (unique register ram : List ℕ) (space offset size : ℕ) → List ℕ
 placeWords unique register ram space offset size =

@@ -1,18 +1,12 @@
 -- Reports and buffers of the C interface.
 use Prim.Native.Nat.{ℕ}
-use mathlib.Core.Bool.{cond}
 use mathlib.Core.List.{List, [], _∷_}
-use lib.Dec.{leb}
 use lib.ListN.{getD}
 use lib.Seq.{sets}
 use Rattle.operation.specs.declared.layout.Settings.{Settings}
 use Rattle.operation.specs.declared.report.Report.{Report}
 use Rattle.machine.specs.Memory.{Memory}
 use Rattle.machine.specs.Calls.{Outcome, unlabelled}
-
--- 11 where the answer has more words than the lent buffer.
-unfoldable pub roomFault : (words room : ℕ) → ℕ
-roomFault words room = cond (leb words room) 0 11
 
 -- A report in its words: ending, index, operations executed, log words written, value.
 unfoldable pub reportWords : Report → List ℕ

@@ -10,16 +10,15 @@ ghost use lib.Seq.{sets};
 ghost use Rattle.word.specs.Word.{part, valueOf, bytesOf};
 ghost use Rattle.arithmetic.specs.Result.{result};
 ghost use Rattle.machine.specs.Memory.{spaces};
-ghost use Rattle.undrelvoa_faults.specs.Faults.{valueFault, gatherFault, scatterFault};
-ghost use Rattle.undrelvoa.specs.Buffers.{roomFault};
+ghost use Rattle.undrelvoa_faults.specs.Faults.{valueFault, gatherFault, scatterFault, placeFault};
 ghost use Rattle.undrelvoa.specs.Calls.{AnswerPromise, BuffersPromise, LabelledBuffersPromise};
-ghost use Rattle.undrelvoa.specs.Answers.{verdictWords, shownLength, placeLength, placeWords};
+ghost use Rattle.undrelvoa.specs.Answers.{verdictWords, shownLength, placeWords};
 use operation::layout::Lengths;
 use undrelvoa_faults::of_gather;
 use undrelvoa_faults::of_lengths;
+use undrelvoa_faults::of_place;
 use undrelvoa_faults::of_scatter;
 use undrelvoa_faults::of_value;
-use words::PLACE_WORDS;
 use words::settings_in;
 use words::write_place;
 use words::write_report;
@@ -265,11 +264,12 @@ pub extern "C" fn undrelvoa_show<'a>(
     size: u64,
     place: &mut [u64],
 ) -> u64
-    ensures answer { λ r. ⌜ r ≡ roomFault placeLength (length (now (place .entry))) ⌝ }
+    ensures answer { λ r. ⌜ r ≡ placeFault (length (now (place .entry))) ⌝ }
     ensures buffer { λ r. ⌜ now (place .exit) ≡ cond (eqb r 0) (sets (now (place .entry)) 0 (placeWords (now (unique .entry)) (now (register .entry)) (now (ram .entry)) space offset size)) (now (place .entry)) ⌝ }
 {
-    if place.len() < PLACE_WORDS {
-        return 11;
+    let fault = of_place(place.len());
+    if fault != 0 {
+        return fault;
     }
     let shown = shown_length(unique, register, ram, space, offset, size);
     write_place(place, space, offset, shown);

@@ -7,15 +7,11 @@ ghost use lib.Dec.{eqb};
 ghost use lib.ListN.{length};
 ghost use lib.Seq.{sets};
 ghost use Rattle.operation.specs.Numbers.{reportNumbers};
-ghost use Rattle.undrelvoa_faults.specs.Faults.{settingsWords};
+ghost use Rattle.undrelvoa_faults.specs.Faults.{settingsWords, placeLength};
 ghost use Rattle.undrelvoa.specs.Buffers.{reportWords, settingsIn};
-ghost use Rattle.undrelvoa.specs.Answers.{placeLength};
 use integer::boolean::pick;
 use operation::layout::Settings;
 use operation::report::Report;
-
-// Words of a place.
-pub(crate) const PLACE_WORDS: usize = 3;
 
 // The settings in their words.
 pub(crate) fn settings_in(words: &[u64]) -> Settings

@@ -10,7 +10,7 @@ use Rattle.arithmetic.specs.Opcodes.{firstInteger, lastInteger, hasPlace}
 use Rattle.arithmetic.specs.Operands.{divides, sizesAgree, Operands}
 use Rattle.integer.proofs.Booleans.{both, passed}
 use Rattle.operation.specs.Numbers.{reportNumbers}
-use Rattle.undrelvoa_faults.specs.Faults.{noAddress, sizesPresent, valueFault, gatherFault, scatterFault, settingsWords, lengthFault}
+use Rattle.undrelvoa_faults.specs.Faults.{noAddress, sizesPresent, valueFault, gatherFault, scatterFault, settingsWords, lengthFault, placeLength, placeFault}
 
 one-to-eight : (n : ℕ) → isSize n ≡ true → (1 ≤ n) × (n ≤ 8)
 unfolding isSize
@@ -107,3 +107,9 @@ lengths-passed settings report e =
     let t = passed (not (eqb settings settingsWords && leb reportNumbers report)) 11 0 (omega arith) e in
     let v = both (eqb settings settingsWords) (leb reportNumbers report) (not-false (eqb settings settingsWords && leb reportNumbers report) (t .0)) in
     (eqb-true settings settingsWords (v .0), leb-true reportNumbers report (v .1))
+
+pub place-passed : (place : ℕ) → placeFault place ≡ 0 → placeLength ≤ place
+unfolding placeFault
+place-passed place e =
+    let t = passed (not (leb placeLength place)) 11 0 (omega arith) e in
+    leb-true placeLength place (not-false (leb placeLength place) (t .0))

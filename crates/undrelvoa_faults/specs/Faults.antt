@@ -44,6 +44,14 @@ scatterFault order length offset size value =
 abbrev pub settingsWords : ℕ
 settingsWords = 2
 
--- undrelvoa_validate, the runs and the steps, by the words of settings and report. All else that can be wrong is an ending of the report.
+-- undrelvoa_validate, the runs and the steps, by the words of settings and report; all else that can be wrong is an ending of the report
 unfoldable pub lengthFault : (settings report : ℕ) → ℕ
 lengthFault settings report = cond (not (eqb settings settingsWords && leb reportNumbers report)) 11 0
+
+-- Words of a place: space, offset, number of bytes.
+abbrev pub placeLength : ℕ
+placeLength = 3
+
+-- undrelvoa_show, by the words of the place
+unfoldable pub placeFault : (place : ℕ) → ℕ
+placeFault place = cond (not (leb placeLength place)) 11 0

@@ -1,6 +1,6 @@
 // What is wrong with a call of the C interface, by its number; 0 where nothing is. Each test is total, so that a new one is one line.
 ghost use mathlib.Core.Path.{_≡_};
-ghost use Rattle.undrelvoa_faults.specs.Faults.{sizesPresent, valueFault, gatherFault, scatterFault, lengthFault};
+ghost use Rattle.undrelvoa_faults.specs.Faults.{sizesPresent, valueFault, gatherFault, scatterFault, lengthFault, placeFault};
 use arithmetic::opcodes::FIRST_INTEGER;
 use arithmetic::opcodes::LAST_INTEGER;
 use arithmetic::opcodes::has_place;
@@ -19,6 +19,9 @@ const NO_ADDRESS: u64 = 0;
 
 // Words of the settings: byte order, address size.
 const SETTINGS_WORDS: usize = 2;
+
+// Words of a place: space, offset, number of bytes.
+const PLACE_WORDS: usize = 3;
 
 // undrelvoa_value
 pub fn of_value(opcode: u64, size: u64, size0: u64, size1: u64, a: u64, b: u64, room: usize) -> u64
@@ -66,6 +69,13 @@ pub fn of_lengths(settings: usize, report: usize) -> u64
 {
     let exact = settings == SETTINGS_WORDS;
     pick(!both(exact, REPORT_NUMBERS <= report), 11, 0)
+}
+
+// undrelvoa_show
+pub fn of_place(place: usize) -> u64
+    ensures { λ r. ⌜ r ≡ placeFault place ⌝ }
+{
+    pick(!(PLACE_WORDS <= place), 11, 0)
 }
 
 // An operation without an input1 has size1 = 0.

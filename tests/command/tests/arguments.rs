@@ -146,6 +146,18 @@ fn links_on_the_search_path() {
 }
 
 #[test]
+fn no_status_of_a_shell_looks_like_an_ending() {
+    // Another shell would end with 2 at the first line that it does not know.
+    let by_sh = "[ -n \"$(sh -c 'echo ${BASH_VERSION:-}')\" ] || sh \"$command\" \"$input\"";
+    for script in
+        [&format!("{by_sh} || exit $?; exit 69"), "ulimit -n 12; exec \"$command\" \"$input\""]
+    {
+        let ended = by_shell(script);
+        assert_eq!((ended.status, ended.stdout.as_str()), (69, ""), "{script}: {ended:?}");
+    }
+}
+
+#[test]
 fn help() {
     let ended = run(own().arg("--help"));
     assert_eq!((ended.status, ended.stderr.as_str()), (0, ""));
@@ -159,10 +171,7 @@ fn help() {
         text.lines().filter_map(|line| line.split_whitespace().next()?.parse().ok()).collect();
     let alone = ENDINGS.iter().filter(|ending| **ending != 1 && !(21..=26).contains(*ending));
     for number in alone.chain(&[64, 66, 69, 74]) {
-        assert!(
-            numbers.contains(number) || *number == 21,
-            "the help has no line for {number}:\n{text}"
-        );
+        assert!(numbers.contains(number), "the help has no line for {number}:\n{text}");
     }
     assert!(text.lines().all(|line| line.len() <= 110), "a line of the help is long");
 }

@@ -7,8 +7,8 @@ use std::process::{Command, Stdio};
 use std::thread;
 use std::time::{Duration, SystemTime};
 
-use command::process::{run, Ended, Running};
-use command::room::{path_with, Room, SmallRepository, NOBODY, QUICK_PROGRAM, REPORT};
+use command::process::{run, wait_until, Ended, Running};
+use command::room::{path_with, Room, SmallRepository, NOBODY, QUICK_PROGRAM, REPORT, WAIT};
 use command::system::is_root;
 use command::terminal::{seen, Terminal, REMOVE};
 
@@ -54,6 +54,8 @@ fn nothing_is_built_again() {
     small.room.write("crates/aside/src/lib.rt", "// another\n");
     small.room.write("crates/low/must-fail/one.edit", "file: src/lib.rt\n");
     small.room.write("notes", "some\n");
+    small.room.write("crates/low/src/.lib.rt.swp", "an editor's\n");
+    small.room.write("crates/low/src/lib.rt~", "an editor's\n");
     assert_fresh(&small, "files that the program is not made of");
 }
 
@@ -169,6 +171,20 @@ fn many_at_once() {
         assert_eq!((ended.status, ended.stdout.as_str()), (0, REPORT), "{}", ended.stderr);
     }
     assert_eq!(small.calls(), 1);
+}
+
+#[test]
+fn one_at_a_time_though_a_file_is_replaced() {
+    let small = SmallRepository::new().with_then(WAIT);
+    let first = Running::start(&mut small.command());
+    wait_until("rt is called", || small.has("tools/here"));
+    let list = fs::read_to_string(small.path("crates.txt")).expect("crates.txt");
+    let list = small.room.write("new crates.txt", &list);
+    fs::rename(list, small.path("crates.txt")).expect("a file in the place of another");
+    let second = Running::start(&mut small.command());
+    second.wait_to_hear("waiting for another");
+    small.go_on();
+    assert_eq!((first.end().status, second.end().status, small.calls()), (0, 0, 1));
 }
 
 #[test]

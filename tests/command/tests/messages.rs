@@ -46,16 +46,18 @@ fn before_building() -> impl IntoIterator<Item = Scenario> {
         silent("all streams are closed", 74, "", || by_shell("\"$case\" <&- >&- 2>&-")),
         silent("two files", 64, "2 arguments are too many", || with_words(&["one", "another"])),
         silent("two files, --", 64, "2 arguments", || with_words(&["--", "one", "another"])),
-        silent("no such option", 64, "there is no option -v: ", || with_words(&["-v"])),
+        silent("no such option", 64, "there is no option '-v': ", || with_words(&["-v"])),
+        silent("help and more", 64, "--help stands alone", || with_words(&["--help", "one"])),
+        silent("version and more", 64, "--version stands", || with_words(&["--version", "-v"])),
         silent("an empty argument", 64, "the argument is empty", || with_words(&[""])),
-        silent("no such file", 66, "there is no file gone, ", || with_words(&["gone"])),
+        silent("no such file", 66, "there is no file 'gone', ", || with_words(&["gone"])),
         silent("a link to no file", 66, "there is no file ", link_to_nothing),
-        silent("a folder", 66, "/ is a folder", || with_words(&["/"])),
+        silent("a folder", 66, "'/' is a folder", || with_words(&["/"])),
         silent("a file of others", 66, "may not be read", file_of_others),
-        silent("a socket", 66, "socket cannot be opened", socket),
+        silent("a socket", 66, "socket' cannot be opened", socket),
         silent("input is closed", 66, CLOSED, || by_shell("<&-")),
         silent("input is closed, -", 66, CLOSED, || by_shell("- <&-")),
-        silent("no /dev/stdin", 66, "no file /dev/stdin", || by_shell("/dev/stdin <&-")),
+        silent("no /dev/stdin", 66, "no file '/dev/stdin'", || by_shell("/dev/stdin <&-")),
         silent("a copy outside its repository", 69, OUTSIDE, || copy_outside(&["-"])),
         silent("the version of such a copy", 69, OUTSIDE, || copy_outside(&["--version"])),
     ]
@@ -88,7 +90,8 @@ fn while_building() -> impl IntoIterator<Item = Scenario> {
             "waiting for another run-case, or the gate, to build: ",
             || beside_another(|small| Terminal::new().start(&mut small.command())),
         ),
-        reporting("no lock can be had", 0, "crates.txt cannot be locked here", without_locks),
+        reporting("no lock can be had", 0, " cannot be locked here", without_locks),
+        silent("a source of others", 69, "the sources in ", source_of_others),
         silent("target is a file", 69, UNWRITTEN, || {
             let small = SmallRepository::new();
             small.room.write("target", "");
@@ -98,6 +101,13 @@ fn while_building() -> impl IntoIterator<Item = Scenario> {
         silent("the top is of others", 69, UNWRITTEN, || of_others("")),
         silent("a part is of others", 69, "target/log is not a folder", || of_others("target/log")),
         silent("no rt", 69, "rt is not on PATH", || without("rt")),
+        silent("no awk", 69, "awk is not on PATH", || without("awk")),
+        silent("no dd", 69, "dd is not on PATH", || without("dd")),
+        silent("no readlink that works", 69, "it could not go on, status 1: ", || {
+            let small = SmallRepository::new();
+            small.room.write_program("tools/readlink", "#!/bin/sh\nexit 1\n");
+            run(&mut small.command())
+        }),
         silent("no flock", 69, "flock is not on PATH", || without("flock")),
         silent("no setsid", 69, "setsid is not on PATH", || without("setsid")),
         silent("a proof fails", 69, "not built, rt check case ended with status 1: ", || {
@@ -127,7 +137,7 @@ fn while_running() -> impl IntoIterator<Item = Scenario> {
         silent("input is only open to write", 74, UNREAD, || {
             reading(OpenOptions::new().write(true).open("/dev/null"))
         }),
-        silent("the case goes during the build", 66, "empty case can no longer be opened", || {
+        silent("the case goes during the build", 66, "empty case' can no longer be opened", || {
             run(&mut SmallRepository::new().with_first("rm 'empty case'\n").command())
         }),
         silent("a program that prints nothing", 74, "no result (nothing was printed)", || {
@@ -221,6 +231,12 @@ fn file_of_others() -> Ended {
     as_another(&mut small.command())
 }
 
+fn source_of_others() -> Ended {
+    let small = SmallRepository::built();
+    set_mode(&small, "crates/low/src/lib.rt", 0o000);
+    as_another(&mut small.command())
+}
+
 /// A build where one folder cannot be written.
 fn of_others(folder: &str) -> Ended {
     let small = SmallRepository::new();
@@ -257,7 +273,8 @@ fn beside_another(start: fn(&SmallRepository) -> Running) -> Ended {
 fn without(tool: &str) -> Ended {
     let (small, few) = (SmallRepository::new(), Room::new());
     let path = path_with(&small.path("tools"));
-    let used = "bash dirname readlink awk find sort xargs sha256sum rt flock setsid";
+    let used =
+        "bash awk cat dd find head mkdir readlink rm sha256sum sleep sort xargs rt flock setsid";
     for name in used.split(' ').filter(|name| *name != tool) {
         let place =
             env::split_paths(&path).map(|folder| folder.join(name)).find(|place| place.exists());
