@@ -2,7 +2,7 @@
  * has programs in C and in Rust.
  *
  * Link target/staticlib/libundrelvoa.a, which `rt staticlib undrelvoa` makes, for x86-64 Linux (its C calling
- * convention). It needs no other library, the C library not either.
+ * convention). It needs no other library, not even the C library.
  *
  * Calls. Every function takes every number; of buffers it asks what the next paragraph says. It answers an
  * undrelvoa_answer: 0 when it has done its work, else what is wrong with the call itself, and then it has
@@ -14,9 +14,10 @@
  * address for uint8_t. A buffer that a call writes overlaps no other buffer of that call; those that it only
  * reads (const) may overlap each other.
  *
- * Threads. The library has no state: nothing is kept from call to call, no memory is allocated, no function
- * is called. Any thread may call, at any time, also from a signal handler; but while a call runs, nobody
- * else writes its buffers, nor reads those that it writes.
+ * Threads. The library has no state: nothing is kept from call to call, no memory is allocated, nothing outside
+ * the library is called; the stack of a thread with 16 KiB is enough. Any thread may call, at any time, also from
+ * a signal handler. But while a call runs, nobody else writes a buffer of it, nor reads one that it writes: the
+ * list is checked once, and nothing holds of a call whose list changes after that.
  *
  * Secrets. After a run the spaces hold secret bytes in clear, as they did before it; the labels say which.
  */
@@ -31,18 +32,22 @@ extern "C" {
 #endif
 
 /* The version of this header and of the library that it is for: that of the file VERSION. The first number
- * grows where a call changes, so that a program has to be changed or compiled anew. */
+ * grows where a call changes, in its parameters or in the words that it takes: a program is then looked at
+ * and compiled anew, since the linker does not notice. */
 #define UNDRELVOA_VERSION "2.0.0"
 #define UNDRELVOA_VERSION_MAJOR 2
 #define UNDRELVOA_VERSION_MINOR 0
 #define UNDRELVOA_VERSION_PATCH 0
 
-/* Limits. A list, space or size beyond them is refused. */
+/* Limits. The verdict and the runs refuse what is beyond them. */
 #define UNDRELVOA_MAX_OPERATIONS 4096   /* operations of a list */
 #define UNDRELVOA_MAX_SPACE_BYTES 65536 /* bytes of a space */
 #define UNDRELVOA_MAX_SIZE 8            /* bytes of a varnode, and of an address */
+#define UNDRELVOA_MAX_BUDGET UINT32_MAX /* the budget's type has no larger number: C cuts one without a word */
 
-/* The words of settings. Their number is exact: a later version may have more. */
+/* The words of settings. Their number is exact, and a later version may ask for more. So lend the words that you
+ * wrote (sizeof settings / sizeof settings[0]): with this macro as their number, one that you do not know of
+ * would be a 0 that nobody chose. */
 #define UNDRELVOA_SETTINGS_ORDER 0        /* byte order: UNDRELVOA_LITTLE or UNDRELVOA_BIG */
 #define UNDRELVOA_SETTINGS_ADDRESS_SIZE 1 /* bytes of an address, 1 to 8 */
 #define UNDRELVOA_SETTINGS_WORDS 2
@@ -68,19 +73,23 @@ extern "C" {
 #define UNDRELVOA_PUBLIC 0
 #define UNDRELVOA_SECRET 1
 
-/* A log word: the index of the operation that wrote it, and what it wrote: the byte offset of LOAD and
+/* A log word: the index of the operation that wrote it, and what it shows: the byte offset of LOAD and
  * STORE, or 1 for a CBRANCH taken and 0 for one not taken. */
 #define UNDRELVOA_LOG_INDEX(word) ((uint64_t)(word) >> 32)
-#define UNDRELVOA_LOG_OFFSET(word) ((uint64_t)(word) & 0xffffffffu)
+#define UNDRELVOA_LOG_SHOWN(word) ((uint64_t)(word) & 0xffffffffu)
 
 /* An operation is five words: its head, then the offsets of output, input0, input1 and input2. Where an
- * operation has no such varnode, its descriptor is UNDRELVOA_ABSENT and its offset 0. */
+ * operation has no such varnode, its descriptor is UNDRELVOA_ABSENT and its offset 0. A number that does not
+ * fit its field becomes 255 there, which is refused (21 or 22) and never another opcode, space or size. The
+ * macros take their arguments more than once. */
 #define UNDRELVOA_OPERATION_WORDS 5
 #define UNDRELVOA_ABSENT 0
-#define UNDRELVOA_DESCRIPTOR(space, size) ((uint64_t)(space) * 16 + (uint64_t)(size))
-#define UNDRELVOA_OPERATION_HEAD(opcode, output, input0, input1, input2)                               \
-    ((uint64_t)(opcode) | (uint64_t)(output) << 8 | (uint64_t)(input0) << 16 | (uint64_t)(input1) << 24 \
-     | (uint64_t)(input2) << 32)
+#define UNDRELVOA_DESCRIPTOR(space, size) \
+    ((uint64_t)(space) < 16 && (uint64_t)(size) < 16 ? (uint64_t)(space) * 16 + (uint64_t)(size) : (uint64_t)255)
+#define UNDRELVOA_HEAD_BYTE(number, at) (((uint64_t)(number) < 256 ? (uint64_t)(number) : (uint64_t)255) << 8 * (at))
+#define UNDRELVOA_OPERATION_HEAD(opcode, output, input0, input1, input2)                                      \
+    (UNDRELVOA_HEAD_BYTE(opcode, 0) | UNDRELVOA_HEAD_BYTE(output, 1) | UNDRELVOA_HEAD_BYTE(input0, 2)         \
+     | UNDRELVOA_HEAD_BYTE(input1, 3) | UNDRELVOA_HEAD_BYTE(input2, 4))
 
 /* The address spaces. A varnode of the constant space has no bytes: its value is its offset. */
 enum undrelvoa_space {
@@ -137,9 +146,10 @@ enum undrelvoa_opcode {
 };
 
 /* What a call answers: whether the call itself could be served. With several faults, the lowest number.
- * Two numbers are endings too, and mean something else there:
- *   11  UNDRELVOA_ANSWER_LENGTH: settings, report, place or result have the wrong number of words; nothing
- *       else was looked at. The ending UNDRELVOA_LENGTH: list, spaces or labels have a wrong length.
+ * These numbers are endings too, where they mean something else, so an answer is never compared with an
+ * undrelvoa_ending. Two are easily confused:
+ *   11  UNDRELVOA_ANSWER_LENGTH: settings, report, place or result have the wrong number of words. The
+ *       ending UNDRELVOA_LENGTH: list, spaces or labels have a wrong length.
  *   24  UNDRELVOA_ANSWER_RANGE: the bytes or values given to undrelvoa_gather, undrelvoa_scatter or
  *       undrelvoa_value do not fit. The ending UNDRELVOA_RANGE: a varnode of an operation does not. */
 enum undrelvoa_answer {
@@ -229,7 +239,7 @@ uint64_t undrelvoa_scatter(uint64_t order, uint8_t *bytes, size_t bytes_len, uin
 /* The verdict on a list of operations.
  *
  *   settings      byte order and address size, only read
- *   settings_len  its words, UNDRELVOA_SETTINGS_WORDS
+ *   settings_len  its words, exactly two
  *   unique_len    bytes of the unique, register and ram spaces, at most 65,536 each
  *   register_len
  *   ram_len
@@ -250,7 +260,7 @@ uint64_t undrelvoa_validate(const uint64_t *settings, size_t settings_len, uint6
  *
  *   settings, settings_len, list, list_len   as for undrelvoa_validate
  *   start        the index of the first operation to execute, at most the number of operations
- *   budget       the most operations to execute
+ *   budget       the most operations to execute, 0 to UNDRELVOA_MAX_BUDGET
  *   unique, register_space, ram   the three spaces, read and written
  *   unique_len, register_len, ram_len   their bytes, at most 65,536 each
  *   log          its first words become the log words written, one for each LOAD, STORE and CBRANCH

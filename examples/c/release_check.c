@@ -1,13 +1,15 @@
 /* Says of four stubs whether they may be released: only one whose labelled run comes to its end. A run is made in
- * slices, as by a desk that wants to look at the clock in between. */
+ * slices, as by a desk that wants to look at the clock in between; each call checks list and labels anew, so true slices
+ * are longer. */
 #include "undrelvoa.h"
 
 #include <inttypes.h>
 #include <stddef.h>
 #include <stdio.h>
 
-enum { SPACE_BYTES = 16, LOG_WORDS = 4, WORDS = 2 * UNDRELVOA_OPERATION_WORDS, SLICE = 1, MOST_SLICES = 100 };
+enum { SPACE_BYTES = 16, LOG_WORDS = 4, WORDS = 3 * UNDRELVOA_OPERATION_WORDS, SLICE = 2, MOST_SLICES = 100 };
 
+#define COUNT(array) (sizeof(array) / sizeof((array)[0]))
 #define REGISTER(size) UNDRELVOA_DESCRIPTOR(UNDRELVOA_SPACE_REGISTER, size)
 #define CONSTANT(size) UNDRELVOA_DESCRIPTOR(UNDRELVOA_SPACE_CONSTANT, size)
 
@@ -37,13 +39,16 @@ static const char *name_of(uint64_t ending) {
     }
 }
 
-/* The operations of a stub: register 8 = the byte of ram at register 0; register 9 = register 8 xor 0xff. */
+/* The operations of a stub: register 8 = the byte of ram at register 0; register 9 = register 8 xor 0xff; register 10
+ * = register 9. */
 static void list_of(const struct stub *stub, uint64_t *list) {
     const uint64_t operations[WORDS] = {
         UNDRELVOA_OPERATION_HEAD(UNDRELVOA_LOAD, REGISTER(1), CONSTANT(1), REGISTER(stub->pointer_size), 0),
         8, UNDRELVOA_SPACE_RAM, 0, 0,
         UNDRELVOA_OPERATION_HEAD(UNDRELVOA_INT_XOR, REGISTER(1), REGISTER(1), CONSTANT(1), 0),
         9, 8, 0xff, 0,
+        UNDRELVOA_OPERATION_HEAD(UNDRELVOA_COPY, REGISTER(1), REGISTER(1), 0, 0),
+        10, 9, 0, 0,
     };
     size_t i;
     for (i = 0; i < WORDS; i++) {
@@ -51,9 +56,9 @@ static void list_of(const struct stub *stub, uint64_t *list) {
     }
 }
 
-/* Runs a stub in slices of one operation, prints how it ended, and answers whether it may be released. */
+/* Runs a stub in slices of two operations, prints how it ended, and answers whether it may be released. */
 static int check(const struct stub *stub) {
-    const uint64_t settings[UNDRELVOA_SETTINGS_WORDS] = {UNDRELVOA_LITTLE, 4};
+    const uint64_t settings[] = {UNDRELVOA_LITTLE, 4};
     uint8_t registers[SPACE_BYTES] = {0}, ram[SPACE_BYTES] = {0};
     uint8_t register_labels[SPACE_BYTES] = {0}, ram_labels[SPACE_BYTES];
     uint64_t list[WORDS], log[LOG_WORDS], report[UNDRELVOA_REPORT_WORDS];
@@ -69,7 +74,7 @@ static int check(const struct stub *stub) {
     }
     for (slices = 0; ending == UNDRELVOA_BUDGET && slices < MOST_SLICES; slices++) {
         /* the unique space has no bytes here, so its buffers are NULL; each slice writes behind the log words of the last */
-        uint64_t answer = undrelvoa_labelled_run(settings, UNDRELVOA_SETTINGS_WORDS, list, WORDS, start, SLICE,
+        uint64_t answer = undrelvoa_labelled_run(settings, COUNT(settings), list, WORDS, start, SLICE,
                                                  NULL, 0, registers, SPACE_BYTES, ram, SPACE_BYTES,
                                                  NULL, 0, register_labels, SPACE_BYTES, ram_labels, SPACE_BYTES,
                                                  log + logged, LOG_WORDS - (size_t)logged, report, UNDRELVOA_REPORT_WORDS);
@@ -85,13 +90,13 @@ static int check(const struct stub *stub) {
     printf("%s: %s (%" PRIu64 ") at operation %" PRIu64 ", %" PRIu64 " executed\n", stub->name, name_of(ending), ending,
            start, executed);
     for (i = 0; i < logged; i++) {
-        printf("  operation %" PRIu64 " shows the offset %" PRIu64 "\n", UNDRELVOA_LOG_INDEX(log[i]), UNDRELVOA_LOG_OFFSET(log[i]));
+        printf("  operation %" PRIu64 " shows the offset %" PRIu64 "\n", UNDRELVOA_LOG_INDEX(log[i]), UNDRELVOA_LOG_SHOWN(log[i]));
     }
     return ending == UNDRELVOA_END || ending == UNDRELVOA_EXIT;
 }
 
 int main(void) {
-    size_t i, good = 0, count = sizeof stubs / sizeof stubs[0];
+    size_t i, good = 0, count = COUNT(stubs);
     for (i = 0; i < count; i++) {
         good += (size_t)check(&stubs[i]);
     }

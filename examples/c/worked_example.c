@@ -8,6 +8,7 @@
 
 enum { SPACE_BYTES = 16, LOG_WORDS = 4 };
 
+#define COUNT(array) (sizeof(array) / sizeof((array)[0]))
 #define REGISTER(size) UNDRELVOA_DESCRIPTOR(UNDRELVOA_SPACE_REGISTER, size)
 #define UNIQUE(size) UNDRELVOA_DESCRIPTOR(UNDRELVOA_SPACE_UNIQUE, size)
 #define CONSTANT(size) UNDRELVOA_DESCRIPTOR(UNDRELVOA_SPACE_CONSTANT, size)
@@ -32,14 +33,14 @@ static void print_space(unsigned kind, unsigned space, const uint8_t *bytes) {
 }
 
 int main(void) {
-    const uint64_t settings[UNDRELVOA_SETTINGS_WORDS] = {UNDRELVOA_LITTLE, 4};
+    const uint64_t settings[] = {UNDRELVOA_LITTLE, 4};
     uint8_t unique[SPACE_BYTES] = {0}, registers[SPACE_BYTES] = {0x0d}, ram[SPACE_BYTES] = {0};
     uint8_t unique_labels[SPACE_BYTES] = {0}, register_labels[SPACE_BYTES] = {0}, ram_labels[SPACE_BYTES] = {0};
     uint64_t log[LOG_WORDS], report[UNDRELVOA_REPORT_WORDS], answer, i;
     ram[5] = 0x5a;
     ram_labels[5] = UNDRELVOA_SECRET;
 
-    answer = undrelvoa_labelled_run(settings, UNDRELVOA_SETTINGS_WORDS, list, sizeof list / sizeof list[0], 0, 100,
+    answer = undrelvoa_labelled_run(settings, COUNT(settings), list, COUNT(list), 0, 100,
                                     unique, SPACE_BYTES, registers, SPACE_BYTES, ram, SPACE_BYTES,
                                     unique_labels, SPACE_BYTES, register_labels, SPACE_BYTES, ram_labels, SPACE_BYTES,
                                     log, LOG_WORDS, report, UNDRELVOA_REPORT_WORDS);

@@ -5,9 +5,13 @@
 mod undrelvoa;
 
 use undrelvoa::{
-    labelled_run, operation, Settings, Spaces, Varnode, BOUNDS, BUDGET, CONSTANT, END, EXIT,
+    labelled_run, operation, Settings, Spaces, Varnode, BOUNDS, BUDGET, CONSTANT, COPY, END, EXIT,
     INT_XOR, LEAK, LITTLE, LOAD, PUBLIC, RAM, REGISTER, SECRET, SIZE,
 };
+
+/// Operations of a slice. Each call checks list and labels anew, so true slices are longer.
+const SLICE: u32 = 2;
+const MOST_SLICES: u32 = 100;
 
 struct Stub {
     name: &'static str,
@@ -37,17 +41,19 @@ fn name_of(ending: u64) -> &'static str {
     }
 }
 
-/// The operations of a stub: register 8 = the byte of ram at register 0; register 9 = register 8 xor 0xff.
+/// The operations of a stub: register 8 = the byte of ram at register 0; register 9 = register 8 xor 0xff;
+/// register 10 = register 9.
 fn list_of(stub: &Stub) -> Vec<u64> {
     let constant = |value| Varnode { space: CONSTANT, offset: value, size: 1 };
     let register = |offset, size| Varnode { space: REGISTER, offset, size };
     let load =
         operation(LOAD, Some(register(8, 1)), &[constant(RAM), register(0, stub.pointer_size)]);
     let xor = operation(INT_XOR, Some(register(9, 1)), &[register(8, 1), constant(0xff)]);
-    [load, xor].concat()
+    let copy = operation(COPY, Some(register(10, 1)), &[register(9, 1)]);
+    [load, xor, copy].concat()
 }
 
-/// Runs a stub in slices of one operation, prints how it ended, and answers whether it may be released.
+/// Runs a stub in slices of two operations, prints how it ended, and answers whether it may be released.
 fn check(stub: &Stub) -> bool {
     let settings = Settings { order: LITTLE, address_size: 4 };
     let list = list_of(stub);
@@ -56,18 +62,26 @@ fn check(stub: &Stub) -> bool {
     memory.register[0] = stub.index;
     labels.register[0] = stub.index_label;
     let mut log = [0; 4];
-    let (mut start, mut executed, mut logged) = (0, 0, 0);
-    let ending = loop {
+    let (mut start, mut executed, mut logged, mut ending) = (0, 0, 0, BUDGET);
+    for _ in 0..MOST_SLICES {
         // each slice writes behind the log words of the last
-        let report =
-            labelled_run(&settings, &list, start, 1, &mut memory, &mut labels, &mut log[logged..]);
+        let report = labelled_run(
+            &settings,
+            &list,
+            start,
+            SLICE,
+            &mut memory,
+            &mut labels,
+            &mut log[logged..],
+        );
         start = report.index;
         executed += report.executed;
         logged += report.logged as usize;
-        if report.ending != BUDGET {
-            break report.ending;
+        ending = report.ending;
+        if ending != BUDGET {
+            break;
         }
-    };
+    }
     println!(
         "{}: {} ({ending}) at operation {start}, {executed} executed",
         stub.name,

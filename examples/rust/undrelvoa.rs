@@ -41,12 +41,18 @@ pub struct Varnode {
     pub size: u64,
 }
 
-/// The five words of an operation: its head, and the offsets of output, input0, input1 and input2.
+/// The five words of an operation: its head, and the offsets of output, input0, input1 and input2. A number that does
+/// not fit its field would become another opcode, space or size, so it is a mistake of the caller's.
 pub fn operation(opcode: u64, output: Option<Varnode>, inputs: &[Varnode]) -> [u64; 5] {
+    assert!(
+        opcode < 256 && inputs.len() <= 3,
+        "an opcode is a byte, and an operation has three inputs at most"
+    );
     let mut words = [opcode, 0, 0, 0, 0];
     let places = output.into_iter().map(|varnode| (1, varnode));
     let places = places.chain((2..=4).zip(inputs.iter().copied()));
     for (place, varnode) in places {
+        assert!(varnode.space < 16 && varnode.size < 16, "a space and a size have four bits each");
         words[0] |= (varnode.space * 16 + varnode.size) << (8 * place);
         words[place] = varnode.offset;
     }
@@ -71,7 +77,7 @@ pub struct Spaces {
 }
 
 // As in include/undrelvoa.h.
-extern "C" {
+unsafe extern "C" {
     fn undrelvoa_labelled_run(
         settings: *const u64,
         settings_len: usize,

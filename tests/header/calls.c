@@ -146,12 +146,54 @@ static void names(void) {
                                     UNDRELVOA_DESCRIPTOR(UNDRELVOA_SPACE_UNIQUE, 2)),
            0x2248110003);
     expect("log index", UNDRELVOA_LOG_INDEX(0x0000000100000005), 1);
-    expect("log offset", UNDRELVOA_LOG_OFFSET(0x0000000100000005), 5);
+    expect("what a log word shows", UNDRELVOA_LOG_SHOWN(0x0000000100000005), 5);
+    expect("a size of 24", UNDRELVOA_DESCRIPTOR(UNDRELVOA_SPACE_REGISTER, 24), 255);
+    expect("a space of 16", UNDRELVOA_DESCRIPTOR(16, 1), 255);
+    expect("an opcode of 257", UNDRELVOA_OPERATION_HEAD(257, 0, 0, 0, 0), 255);
+    expect("a descriptor of 256", UNDRELVOA_OPERATION_HEAD(1, 0, 256, 0, 0), 0x00ff0001);
     expect("version",
            (uint64_t)strcmp(UNDRELVOA_VERSION, VERSION_FILE) == 0
                && UNDRELVOA_VERSION_MAJOR == VERSION_MAJOR && UNDRELVOA_VERSION_MINOR == VERSION_MINOR
                && UNDRELVOA_VERSION_PATCH == VERSION_PATCH,
            1);
+}
+
+/* Every number of the header that is no opcode, as the reference has it. */
+static void numbers(void) {
+    static const struct {
+        const char *name;
+        uint64_t number, wanted;
+    } all[] = {
+        {"settings", UNDRELVOA_SETTINGS_ORDER * 100 + UNDRELVOA_SETTINGS_ADDRESS_SIZE * 10 + UNDRELVOA_SETTINGS_WORDS, 12},
+        {"orders", UNDRELVOA_LITTLE * 10 + UNDRELVOA_BIG, 1},
+        {"ending", UNDRELVOA_REPORT_ENDING, 0},
+        {"index", UNDRELVOA_REPORT_INDEX, 1},
+        {"executed", UNDRELVOA_REPORT_EXECUTED, 2},
+        {"logged", UNDRELVOA_REPORT_LOGGED, 3},
+        {"value", UNDRELVOA_REPORT_VALUE, 4},
+        {"words of a report", UNDRELVOA_REPORT_WORDS, 5},
+        {"place", UNDRELVOA_PLACE_SPACE * 1000 + UNDRELVOA_PLACE_OFFSET * 100 + UNDRELVOA_PLACE_BYTES * 10 + UNDRELVOA_PLACE_WORDS, 123},
+        {"labels", UNDRELVOA_PUBLIC * 10 + UNDRELVOA_SECRET, 1},
+        {"spaces", UNDRELVOA_SPACE_CONSTANT * 1000 + UNDRELVOA_SPACE_UNIQUE * 100 + UNDRELVOA_SPACE_REGISTER * 10 + UNDRELVOA_SPACE_RAM, 1234},
+        {"done", UNDRELVOA_ANSWER_DONE, 0},
+        {"setting", UNDRELVOA_ANSWER_SETTING, 10},
+        {"length", UNDRELVOA_ANSWER_LENGTH, 11},
+        {"head", UNDRELVOA_ANSWER_HEAD, 21},
+        {"shape", UNDRELVOA_ANSWER_SHAPE, 22},
+        {"range", UNDRELVOA_ANSWER_RANGE, 24},
+        {"size", UNDRELVOA_ANSWER_SIZE, 25},
+        {"zero", UNDRELVOA_ANSWER_ZERO, 33},
+        {"operations", UNDRELVOA_MAX_OPERATIONS, 4096},
+        {"bytes of a space", UNDRELVOA_MAX_SPACE_BYTES, 65536},
+        {"bytes of a varnode", UNDRELVOA_MAX_SIZE, 8},
+        {"budget", UNDRELVOA_MAX_BUDGET, 4294967295},
+        {"words of an operation", UNDRELVOA_OPERATION_WORDS, 5},
+        {"absent", UNDRELVOA_ABSENT, 0},
+    };
+    size_t i;
+    for (i = 0; i < sizeof all / sizeof all[0]; i++) {
+        expect(all[i].name, all[i].number, all[i].wanted);
+    }
 }
 
 /* A number too many and a number too few of each limit. */
@@ -227,15 +269,19 @@ static void empty(void) {
     expect("show", undrelvoa_show(NULL, 0, NULL, 0, NULL, 0, UNDRELVOA_SPACE_RAM, 0, 1, NULL, 0), UNDRELVOA_ANSWER_LENGTH);
 }
 
-/* Counts a byte down from `from` in a loop, with the same list and settings as the other threads, and the smallest stack. */
+/* Counts a byte down from `from` in a loop, with the same list and settings as the other threads, and the smallest stack;
+ * every other thread with labels. */
 static uint64_t loop[10];
 
 static void *count_down(void *from) {
-    uint8_t registers[2];
+    uint8_t registers[2] = {0}, labels[2] = {0};
     uint64_t log[256], report[5];
     registers[0] = *(uint8_t *)from;
-    registers[1] = 0;
-    undrelvoa_run(little8, 2, loop, 10, 0, 100000, NULL, 0, registers, 2, NULL, 0, log, 256, report, 5);
+    if (registers[0] % 2 == 0) {
+        undrelvoa_run(little8, 2, loop, 10, 0, 100000, NULL, 0, registers, 2, NULL, 0, log, 256, report, 5);
+    } else {
+        undrelvoa_labelled_run(little8, 2, loop, 10, 0, 100000, NULL, 0, registers, 2, NULL, 0, NULL, 0, labels, 2, NULL, 0, log, 256, report, 5);
+    }
     *(uint8_t *)from = report[UNDRELVOA_REPORT_ENDING] == UNDRELVOA_END && registers[0] == 0
                        && report[UNDRELVOA_REPORT_LOGGED] * 2 == report[UNDRELVOA_REPORT_EXECUTED]
                        && report[UNDRELVOA_REPORT_LOGGED] == *(uint8_t *)from;
@@ -268,6 +314,7 @@ static void threads(void) {
 
 int main(void) {
     names();
+    numbers();
     values();
     bytes();
     verdicts();
