@@ -15,9 +15,9 @@
  * reads (const) may overlap each other.
  *
  * Threads. The library has no state: nothing is kept from call to call, no memory is allocated, nothing outside
- * the library is called; the stack of a thread with 16 KiB is enough. Any thread may call, at any time, also from
- * a signal handler. But while a call runs, nobody else writes a buffer of it, nor reads one that it writes: the
- * list is checked once, and nothing holds of a call whose list changes after that.
+ * the library is called; a thread with a stack of 16 KiB can call. Any thread may call, at any time. But while a
+ * call runs, nobody else writes a buffer of it, nor reads one that it writes: the list is checked once, and nothing
+ * holds of a call whose list changes after that.
  *
  * Secrets. After a run the spaces hold secret bytes in clear, as they did before it; the labels say which.
  */
@@ -32,8 +32,8 @@ extern "C" {
 #endif
 
 /* The version of this header and of the library that it is for: that of the file VERSION. The first number
- * grows where a call changes, in its parameters or in the words that it takes: a program is then looked at
- * and compiled anew, since the linker does not notice. */
+ * grows where a call changes, in its parameters or in the words that it takes: a program must then be checked
+ * and compiled again, since the linker does not notice. */
 #define UNDRELVOA_VERSION "2.0.0"
 #define UNDRELVOA_VERSION_MAJOR 2
 #define UNDRELVOA_VERSION_MINOR 0
@@ -43,7 +43,7 @@ extern "C" {
 #define UNDRELVOA_MAX_OPERATIONS 4096   /* operations of a list */
 #define UNDRELVOA_MAX_SPACE_BYTES 65536 /* bytes of a space */
 #define UNDRELVOA_MAX_SIZE 8            /* bytes of a varnode, and of an address */
-#define UNDRELVOA_MAX_BUDGET UINT32_MAX /* the budget's type has no larger number: C cuts one without a word */
+#define UNDRELVOA_MAX_BUDGET UINT32_MAX /* C silently truncates a larger number */
 
 /* The words of settings. Their number is exact, and a later version may ask for more. So lend the words that you
  * wrote (sizeof settings / sizeof settings[0]): with this macro as their number, one that you do not know of
@@ -81,7 +81,7 @@ extern "C" {
 /* An operation is five words: its head, then the offsets of output, input0, input1 and input2. Where an
  * operation has no such varnode, its descriptor is UNDRELVOA_ABSENT and its offset 0. A number that does not
  * fit its field becomes 255 there, which is refused (21 or 22) and never another opcode, space or size. The
- * macros take their arguments more than once. */
+ * macros evaluate their arguments more than once. */
 #define UNDRELVOA_OPERATION_WORDS 5
 #define UNDRELVOA_ABSENT 0
 #define UNDRELVOA_DESCRIPTOR(space, size) \

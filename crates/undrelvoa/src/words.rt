@@ -7,7 +7,7 @@ ghost use lib.Dec.{eqb};
 ghost use lib.ListN.{length};
 ghost use lib.Seq.{sets};
 ghost use Rattle.operation.specs.Numbers.{reportNumbers};
-ghost use Rattle.undrelvoa_faults.specs.Faults.{settingsWords, placeLength};
+ghost use Rattle.undrelvoa_faults.specs.Faults.{settingsLength, placeLength};
 ghost use Rattle.undrelvoa.specs.Buffers.{reportWords, settingsIn};
 use integer::boolean::pick;
 use operation::layout::Settings;
@@ -15,7 +15,7 @@ use operation::report::Report;
 
 // The settings in their words.
 pub(crate) fn settings_in(words: &[u64]) -> Settings
-    requires { ⌜ length (now words) ≡ settingsWords ⌝ }
+    requires { ⌜ length (now words) ≡ settingsLength ⌝ }
     ensures { λ r. ⌜ r ≡ settingsIn (now (words .entry)) ⌝ }
 {
     Settings {

@@ -10,7 +10,7 @@ use Rattle.arithmetic.specs.Opcodes.{firstInteger, lastInteger, hasPlace}
 use Rattle.arithmetic.specs.Operands.{divides, sizesAgree, Operands}
 use Rattle.integer.proofs.Booleans.{both, passed}
 use Rattle.operation.specs.Numbers.{reportNumbers}
-use Rattle.undrelvoa_faults.specs.Faults.{noAddress, sizesPresent, valueFault, gatherFault, scatterFault, settingsWords, lengthFault, placeLength, placeFault}
+use Rattle.undrelvoa_faults.specs.Faults.{noAddress, sizesPresent, valueFault, gatherFault, scatterFault, settingsLength, lengthFault, placeLength, placeFault}
 
 one-to-eight : (n : ℕ) → isSize n ≡ true → (1 ≤ n) × (n ≤ 8)
 unfolding isSize
@@ -101,12 +101,12 @@ scatter-passed order length offset size value e =
     let v = both (leb (offset + size) length) (ltb value (256 ^ size)) (not-false (leb (offset + size) length && ltb value (256 ^ size)) (t3 .0)) in
     (size-most size (not-false (isSize size) (t2 .0)), leb-true (offset + size) length (v .0))
 
-pub lengths-passed : (settings report : ℕ) → lengthFault settings report ≡ 0 → (settings ≡ settingsWords) × (reportNumbers ≤ report)
+pub lengths-passed : (settings report : ℕ) → lengthFault settings report ≡ 0 → (settings ≡ settingsLength) × (reportNumbers ≤ report)
 unfolding lengthFault
 lengths-passed settings report e =
-    let t = passed (not (eqb settings settingsWords && leb reportNumbers report)) 11 0 (omega arith) e in
-    let v = both (eqb settings settingsWords) (leb reportNumbers report) (not-false (eqb settings settingsWords && leb reportNumbers report) (t .0)) in
-    (eqb-true settings settingsWords (v .0), leb-true reportNumbers report (v .1))
+    let t = passed (not (eqb settings settingsLength && leb reportNumbers report)) 11 0 (omega arith) e in
+    let v = both (eqb settings settingsLength) (leb reportNumbers report) (not-false (eqb settings settingsLength && leb reportNumbers report) (t .0)) in
+    (eqb-true settings settingsLength (v .0), leb-true reportNumbers report (v .1))
 
 pub place-passed : (place : ℕ) → placeFault place ≡ 0 → placeLength ≤ place
 unfolding placeFault

@@ -40,18 +40,18 @@ scatterFault order length offset size value =
     (cond (not (isSize size)) 22
     (cond (not (leb (offset + size) length && ltb value (256 ^ size))) 24 0))
 
--- Words of the settings: byte order, address size.
-abbrev pub settingsWords : ℕ
-settingsWords = 2
+-- The number of words of the settings: byte order, address size.
+abbrev pub settingsLength : ℕ
+settingsLength = 2
 
--- undrelvoa_validate, the runs and the steps, by the words of settings and report; all else that can be wrong is an ending of the report
+-- undrelvoa_validate, the runs and the steps. All else that can be wrong is an ending of the report.
 unfoldable pub lengthFault : (settings report : ℕ) → ℕ
-lengthFault settings report = cond (not (eqb settings settingsWords && leb reportNumbers report)) 11 0
+lengthFault settings report = cond (not (eqb settings settingsLength && leb reportNumbers report)) 11 0
 
--- Words of a place: space, offset, number of bytes.
+-- The number of words of a place: space, offset, number of bytes.
 abbrev pub placeLength : ℕ
 placeLength = 3
 
--- undrelvoa_show, by the words of the place
+-- undrelvoa_show.
 unfoldable pub placeFault : (place : ℕ) → ℕ
 placeFault place = cond (not (leb placeLength place)) 11 0
