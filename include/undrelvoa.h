@@ -34,23 +34,30 @@ extern "C" {
 /* The version of this header and of the library that it is for: that of the file VERSION. The first number
  * grows where a call changes, in its parameters or in the words that it takes: a program must then be checked
  * and compiled again, since the linker does not notice. */
-#define UNDRELVOA_VERSION "2.0.0"
-#define UNDRELVOA_VERSION_MAJOR 2
+#define UNDRELVOA_VERSION "3.0.0"
+#define UNDRELVOA_VERSION_MAJOR 3
 #define UNDRELVOA_VERSION_MINOR 0
 #define UNDRELVOA_VERSION_PATCH 0
 
 /* Limits. The verdict and the runs refuse what is beyond them. */
 #define UNDRELVOA_MAX_OPERATIONS 4096   /* operations of a list */
 #define UNDRELVOA_MAX_SPACE_BYTES 65536 /* bytes of a space */
-#define UNDRELVOA_MAX_SIZE 8            /* bytes of a varnode, and of an address */
+#define UNDRELVOA_MAX_SIZE 8            /* bytes of a varnode or an address, and the largest wordsize */
 #define UNDRELVOA_MAX_BUDGET UINT32_MAX /* C silently truncates a larger number */
 
 /* The words of settings. Their number is exact, and a later version may ask for more. So lend the words that you
  * wrote (sizeof settings / sizeof settings[0]): with this macro as their number, one that you do not know of
- * would be a 0 that nobody chose. */
-#define UNDRELVOA_SETTINGS_ORDER 0        /* byte order: UNDRELVOA_LITTLE or UNDRELVOA_BIG */
-#define UNDRELVOA_SETTINGS_ADDRESS_SIZE 1 /* bytes of an address, 1 to 8 */
-#define UNDRELVOA_SETTINGS_WORDS 2
+ * would be a 0 that nobody chose.
+ *
+ * A wordsize is how many bytes a pointer into that space counts as one, 1 to 8, also where the space is empty.
+ * LOAD and STORE multiply the pointer by that of the space which input0 names; nothing wraps, not at the address
+ * size either. Every other offset counts bytes. With wordsizes of 1 all answers are those of version 2. */
+#define UNDRELVOA_SETTINGS_ORDER 0             /* byte order: UNDRELVOA_LITTLE or UNDRELVOA_BIG */
+#define UNDRELVOA_SETTINGS_ADDRESS_SIZE 1      /* bytes of an address, 1 to 8 */
+#define UNDRELVOA_SETTINGS_UNIQUE_WORDSIZE 2   /* wordsize of unique */
+#define UNDRELVOA_SETTINGS_REGISTER_WORDSIZE 3 /* wordsize of register */
+#define UNDRELVOA_SETTINGS_RAM_WORDSIZE 4      /* wordsize of ram */
+#define UNDRELVOA_SETTINGS_WORDS 5
 
 #define UNDRELVOA_LITTLE 0
 #define UNDRELVOA_BIG 1
@@ -172,7 +179,7 @@ enum undrelvoa_ending {
     UNDRELVOA_END = 0,      /* the end of the list: the number of operations */
     UNDRELVOA_EXIT = 1,     /* the exiting operation, which is counted; the value is its destination */
     UNDRELVOA_BUDGET = 2,   /* the budget is spent: the next operation */
-    UNDRELVOA_SETTING = 10, /* byte order or address size out of range: 0 */
+    UNDRELVOA_SETTING = 10, /* byte order, address size or a wordsize out of range: 0 */
     UNDRELVOA_LENGTH = 11,  /* words not a multiple of 5, over 4,096 operations, a space over 65,536
                              * bytes, or other numbers of labels than of bytes: 0 */
     UNDRELVOA_LABEL = 12,   /* a label that is neither 0 nor 1: 0 */
@@ -186,7 +193,7 @@ enum undrelvoa_ending {
     UNDRELVOA_START = 27,   /* a start above the number of operations: 0 */
     /* 31 to 34: the operation that was not executed; where several hold, the lowest */
     UNDRELVOA_LEAK = 31,    /* a byte that must be public is secret */
-    UNDRELVOA_BOUNDS = 32,  /* a pointer to bytes outside its space */
+    UNDRELVOA_BOUNDS = 32,  /* LOAD or STORE past the end of the space that input0 names, after multiplying */
     UNDRELVOA_ZERO = 33,    /* a divisor of 0 */
     UNDRELVOA_LOG = 34      /* a log word is due, and the log is full */
 };
@@ -238,8 +245,8 @@ uint64_t undrelvoa_scatter(uint64_t order, uint8_t *bytes, size_t bytes_len, uin
 
 /* The verdict on a list of operations.
  *
- *   settings      byte order and address size, only read
- *   settings_len  its words, exactly two
+ *   settings      byte order, address size and wordsizes, only read
+ *   settings_len  its words, exactly five
  *   unique_len    bytes of the unique, register and ram spaces, at most 65,536 each
  *   register_len
  *   ram_len

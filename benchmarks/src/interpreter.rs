@@ -1,5 +1,5 @@
 //! A plain p-code interpreter in safe Rust, to time against: the same operations, endings and log,
-//! for lists that are known to be well-formed.
+//! for lists that are known to be well-formed, in spaces of wordsize 1.
 //!
 //! Operations are decoded once, before the run: that is faster than decoding them in the loop.
 

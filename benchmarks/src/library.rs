@@ -83,9 +83,14 @@ impl Labels {
     }
 }
 
+/// The words of the settings. Pointers count bytes, as those of the plain interpreter do.
+fn settings(program: &Program) -> [u64; 5] {
+    [program.order, program.address_size, 1, 1, 1]
+}
+
 /// The report of a plain run.
 pub fn run(program: &Program, budget: u32, state: &mut State) -> [u64; 5] {
-    let settings = [program.order, program.address_size];
+    let settings = settings(program);
     let mut report = [0; 5];
     // SAFETY: each pointer and length are those of one buffer, lent to this call alone; the buffers
     // do not overlap.
@@ -120,7 +125,7 @@ pub fn labelled_run(
     state: &mut State,
     labels: &mut Labels,
 ) -> [u64; 5] {
-    let settings = [program.order, program.address_size];
+    let settings = settings(program);
     let mut report = [0; 5];
     // SAFETY: each pointer and length are those of one buffer, lent to this call alone; the buffers
     // do not overlap.

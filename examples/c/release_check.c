@@ -58,7 +58,7 @@ static void list_of(const struct stub *stub, uint64_t *list) {
 
 /* Runs a stub in slices of two operations, prints how it ended, and answers whether it may be released. */
 static int check(const struct stub *stub) {
-    const uint64_t settings[] = {UNDRELVOA_LITTLE, 4};
+    const uint64_t settings[] = {UNDRELVOA_LITTLE, 4, 1, 1, 1}; /* 4 bytes of an address; each wordsize 1 */
     uint8_t registers[SPACE_BYTES] = {0}, ram[SPACE_BYTES] = {0};
     uint8_t register_labels[SPACE_BYTES] = {0}, ram_labels[SPACE_BYTES];
     uint64_t list[WORDS], log[LOG_WORDS], report[UNDRELVOA_REPORT_WORDS];

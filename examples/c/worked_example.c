@@ -33,7 +33,7 @@ static void print_space(unsigned kind, unsigned space, const uint8_t *bytes) {
 }
 
 int main(void) {
-    const uint64_t settings[] = {UNDRELVOA_LITTLE, 4};
+    const uint64_t settings[] = {UNDRELVOA_LITTLE, 4, 1, 1, 1}; /* 4 bytes of an address; each wordsize 1 */
     uint8_t unique[SPACE_BYTES] = {0}, registers[SPACE_BYTES] = {0x0d}, ram[SPACE_BYTES] = {0};
     uint8_t unique_labels[SPACE_BYTES] = {0}, register_labels[SPACE_BYTES] = {0}, ram_labels[SPACE_BYTES] = {0};
     uint64_t log[LOG_WORDS], report[UNDRELVOA_REPORT_WORDS], answer, i;

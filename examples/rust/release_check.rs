@@ -55,7 +55,7 @@ fn list_of(stub: &Stub) -> Vec<u64> {
 
 /// Runs a stub in slices of two operations, prints how it ended, and answers whether it may be released.
 fn check(stub: &Stub) -> bool {
-    let settings = Settings { order: LITTLE, address_size: 4 };
+    let settings = Settings::byte_addressed(LITTLE, 4);
     let list = list_of(stub);
     let mut memory = Spaces { unique: vec![], register: vec![0; 16], ram: vec![0; 16] };
     let mut labels = Spaces { unique: vec![], register: vec![PUBLIC; 16], ram: vec![SECRET; 16] };

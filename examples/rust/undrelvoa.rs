@@ -1,10 +1,20 @@
 //! The library for Rust: a safe function over the labelled run of the C interface, and what an example
 //! needs of its numbers. The other calls of include/undrelvoa.h go the same way.
 
-/// Byte order and address size.
+/// Byte order, address size, and for each space its wordsize: how many bytes a pointer of LOAD or STORE counts as one.
 pub struct Settings {
     pub order: u64,
     pub address_size: u64,
+    pub unique_wordsize: u64,
+    pub register_wordsize: u64,
+    pub ram_wordsize: u64,
+}
+
+impl Settings {
+    /// Settings for spaces that are addressed in bytes.
+    pub fn byte_addressed(order: u64, address_size: u64) -> Settings {
+        Settings { order, address_size, unique_wordsize: 1, register_wordsize: 1, ram_wordsize: 1 }
+    }
 }
 
 pub const LITTLE: u64 = 0;
@@ -114,7 +124,13 @@ pub fn labelled_run(
     labels: &mut Spaces,
     log: &mut [u64],
 ) -> Report {
-    let settings = [settings.order, settings.address_size];
+    let settings = [
+        settings.order,
+        settings.address_size,
+        settings.unique_wordsize,
+        settings.register_wordsize,
+        settings.ram_wordsize,
+    ];
     let mut report = [0; 5];
     // SAFETY: each pointer and length are those of one slice or Vec, and each of those that are written is borrowed by
     // this call alone, so none overlaps another.

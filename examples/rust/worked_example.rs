@@ -36,7 +36,7 @@ fn main() {
         operation(LOAD, Some(loaded), &[varnode(CONSTANT, RAM, 1), masked]),
         operation(COPY, Some(varnode(REGISTER, 8, 1)), &[loaded]),
     ];
-    let settings = Settings { order: LITTLE, address_size: 4 };
+    let settings = Settings::byte_addressed(LITTLE, 4);
     let (mut memory, mut labels) = (zeros(), zeros());
     memory.register[0] = 0x0d;
     memory.ram[5] = 0x5a;

@@ -5,8 +5,9 @@
 #include <stdio.h>
 #include <string.h>
 
-static const uint64_t little8[UNDRELVOA_SETTINGS_WORDS] = {UNDRELVOA_LITTLE, 8};
-static const uint64_t little1[UNDRELVOA_SETTINGS_WORDS] = {UNDRELVOA_LITTLE, 1};
+/* Byte order, address size, and pointers that count bytes. */
+static const uint64_t little8[UNDRELVOA_SETTINGS_WORDS] = {UNDRELVOA_LITTLE, 8, 1, 1, 1};
+static const uint64_t little1[UNDRELVOA_SETTINGS_WORDS] = {UNDRELVOA_LITTLE, 1, 1, 1, 1};
 
 static int passed, failed;
 
@@ -52,14 +53,14 @@ static void verdicts(void) {
     uint64_t report[6] = {7, 7, 7, 7, 7, 9};
     list[0] = 1 | (uint64_t)0x24 << 8 | (uint64_t)0x34 << 16;
     list[2] = 12;
-    expect("validate", undrelvoa_validate(little8, 2, 16, 16, 16, list, 5, report, 6), 0);
+    expect("validate", undrelvoa_validate(little8, 5, 16, 16, 16, list, 5, report, 6), 0);
     expect("ending", report[0], 0);
     expect("index", report[1], 1);
     expect("the word after the report", report[5], 9);
     list[2] = 13;
-    expect("validate", undrelvoa_validate(little8, 2, 16, 16, 16, list, 5, report, 6), 0);
+    expect("validate", undrelvoa_validate(little8, 5, 16, 16, 16, list, 5, report, 6), 0);
     expect("offset 13", report[0], 24);
-    expect("short report", undrelvoa_validate(little8, 2, 16, 16, 16, list, 5, report, 4), 11);
+    expect("short report", undrelvoa_validate(little8, 5, 16, 16, 16, list, 5, report, 4), 11);
 }
 
 /* Known results: bytes 01 02 03 04, COPY of 2 bytes from 0 to 1: 01 01 02 04. Then a BRANCH to ram 7, an exit. */
@@ -68,7 +69,7 @@ static void runs(void) {
     uint8_t unique[1] = {0}, registers[4] = {1, 2, 3, 4}, ram[8] = {0};
     uint64_t log[1] = {8};
     uint64_t report[6] = {7, 7, 7, 7, 7, 9};
-    expect("step", undrelvoa_step(little8, 2, list, 10, 0, unique, 1, registers, 4, ram, 8, log, 1, report, 6), 0);
+    expect("step", undrelvoa_step(little8, 5, list, 10, 0, unique, 1, registers, 4, ram, 8, log, 1, report, 6), 0);
     expect("budget spent", report[0], 2);
     expect("next index", report[1], 1);
     expect("executed", report[2], 1);
@@ -76,14 +77,14 @@ static void runs(void) {
     expect("byte written", registers[1], 1);
     expect("byte written", registers[2], 2);
     expect("byte after", registers[3], 4);
-    expect("run", undrelvoa_run(little8, 2, list, 10, 1, 9, unique, 1, registers, 4, ram, 8, log, 1, report, 6), 0);
+    expect("run", undrelvoa_run(little8, 5, list, 10, 1, 9, unique, 1, registers, 4, ram, 8, log, 1, report, 6), 0);
     expect("exit", report[0], 1);
     expect("destination", report[4], 7);
     expect("the log's word", log[0], 8);
     expect("the word after the report", report[5], 9);
-    expect("run", undrelvoa_run(little8, 2, list, 10, 3, 9, unique, 1, registers, 4, ram, 8, log, 1, report, 6), 0);
+    expect("run", undrelvoa_run(little8, 5, list, 10, 3, 9, unique, 1, registers, 4, ram, 8, log, 1, report, 6), 0);
     expect("start after the end", report[0], 27);
-    expect("short report", undrelvoa_run(little8, 2, list, 10, 0, 9, unique, 1, registers, 4, ram, 8, log, 1, report, 4), 11);
+    expect("short report", undrelvoa_run(little8, 5, list, 10, 0, 9, unique, 1, registers, 4, ram, 8, log, 1, report, 4), 11);
     expect("byte after a refusal", registers[2], 2);
 }
 
@@ -94,7 +95,7 @@ static void labelled_runs(void) {
     uint8_t of_unique[1] = {0}, of_registers[4] = {1, 0, 0, 0}, of_ram[8] = {0};
     uint64_t log[1] = {8};
     uint64_t report[6] = {7, 7, 7, 7, 7, 9};
-    expect("labelled step", undrelvoa_labelled_step(little1, 2, list, 10, 0, unique, 1, registers, 4, ram, 8, of_unique, 1, of_registers, 4, of_ram, 8, log, 1, report, 6), 0);
+    expect("labelled step", undrelvoa_labelled_step(little1, 5, list, 10, 0, unique, 1, registers, 4, ram, 8, of_unique, 1, of_registers, 4, of_ram, 8, log, 1, report, 6), 0);
     expect("budget spent", report[0], 2);
     expect("next index", report[1], 1);
     expect("byte written", registers[2], 2);
@@ -102,23 +103,23 @@ static void labelled_runs(void) {
     expect("label written", of_registers[1], 1);
     expect("label written", of_registers[2], 1);
     expect("label after", of_registers[3], 0);
-    expect("labelled run", undrelvoa_labelled_run(little1, 2, list, 10, 1, 9, unique, 1, registers, 4, ram, 8, of_unique, 1, of_registers, 4, of_ram, 8, log, 1, report, 6), 0);
+    expect("labelled run", undrelvoa_labelled_run(little1, 5, list, 10, 1, 9, unique, 1, registers, 4, ram, 8, of_unique, 1, of_registers, 4, of_ram, 8, log, 1, report, 6), 0);
     expect("secret destination", report[0], 31);
     expect("where it stopped", report[1], 1);
     expect("not executed", report[2], 0);
     expect("no value", report[4], 0);
     of_registers[2] = 0;
-    expect("labelled run", undrelvoa_labelled_run(little1, 2, list, 10, 1, 9, unique, 1, registers, 4, ram, 8, of_unique, 1, of_registers, 4, of_ram, 8, log, 1, report, 6), 0);
+    expect("labelled run", undrelvoa_labelled_run(little1, 5, list, 10, 1, 9, unique, 1, registers, 4, ram, 8, of_unique, 1, of_registers, 4, of_ram, 8, log, 1, report, 6), 0);
     expect("exit", report[0], 1);
     expect("destination", report[4], 2);
     expect("the word after the report", report[5], 9);
-    expect("labelled run", undrelvoa_labelled_run(little1, 2, list, 10, 0, 9, unique, 1, registers, 4, ram, 8, of_unique, 1, of_registers, 3, of_ram, 8, log, 1, report, 6), 0);
+    expect("labelled run", undrelvoa_labelled_run(little1, 5, list, 10, 0, 9, unique, 1, registers, 4, ram, 8, of_unique, 1, of_registers, 3, of_ram, 8, log, 1, report, 6), 0);
     expect("a label too few", report[0], 11);
     of_registers[3] = 2;
-    expect("labelled run", undrelvoa_labelled_run(little1, 2, list, 10, 0, 9, unique, 1, registers, 4, ram, 8, of_unique, 1, of_registers, 4, of_ram, 8, log, 1, report, 6), 0);
+    expect("labelled run", undrelvoa_labelled_run(little1, 5, list, 10, 0, 9, unique, 1, registers, 4, ram, 8, of_unique, 1, of_registers, 4, of_ram, 8, log, 1, report, 6), 0);
     expect("a label of 2", report[0], 12);
     expect("the label after a refusal", of_registers[2], 0);
-    expect("short report", undrelvoa_labelled_run(little1, 2, list, 10, 0, 9, unique, 1, registers, 4, ram, 8, of_unique, 1, of_registers, 4, of_ram, 8, log, 1, report, 4), 11);
+    expect("short report", undrelvoa_labelled_run(little1, 5, list, 10, 0, 9, unique, 1, registers, 4, ram, 8, of_unique, 1, of_registers, 4, of_ram, 8, log, 1, report, 4), 11);
 }
 
 static void shown(void) {
@@ -164,7 +165,9 @@ static void numbers(void) {
         const char *name;
         uint64_t number, wanted;
     } all[] = {
-        {"settings", UNDRELVOA_SETTINGS_ORDER * 100 + UNDRELVOA_SETTINGS_ADDRESS_SIZE * 10 + UNDRELVOA_SETTINGS_WORDS, 12},
+        {"settings", UNDRELVOA_SETTINGS_ORDER * 10 + UNDRELVOA_SETTINGS_ADDRESS_SIZE, 1},
+        {"wordsizes", UNDRELVOA_SETTINGS_UNIQUE_WORDSIZE * 100 + UNDRELVOA_SETTINGS_REGISTER_WORDSIZE * 10 + UNDRELVOA_SETTINGS_RAM_WORDSIZE, 234},
+        {"words of settings", UNDRELVOA_SETTINGS_WORDS, 5},
         {"orders", UNDRELVOA_LITTLE * 10 + UNDRELVOA_BIG, 1},
         {"ending", UNDRELVOA_REPORT_ENDING, 0},
         {"index", UNDRELVOA_REPORT_INDEX, 1},
@@ -206,26 +209,26 @@ static void limits(void) {
     for (i = 0; i <= UNDRELVOA_MAX_OPERATIONS; i++) {
         list[i * UNDRELVOA_OPERATION_WORDS] = copy;
     }
-    expect("validate", undrelvoa_validate(little8, 2, 0, 0, UNDRELVOA_MAX_SPACE_BYTES, list, words, report, 5), 0);
+    expect("validate", undrelvoa_validate(little8, 5, 0, 0, UNDRELVOA_MAX_SPACE_BYTES, list, words, report, 5), 0);
     expect("all operations", report[UNDRELVOA_REPORT_ENDING], UNDRELVOA_END);
     expect("their number", report[UNDRELVOA_REPORT_INDEX], UNDRELVOA_MAX_OPERATIONS);
-    undrelvoa_validate(little8, 2, 0, 0, UNDRELVOA_MAX_SPACE_BYTES, list, words + UNDRELVOA_OPERATION_WORDS, report, 5);
+    undrelvoa_validate(little8, 5, 0, 0, UNDRELVOA_MAX_SPACE_BYTES, list, words + UNDRELVOA_OPERATION_WORDS, report, 5);
     expect("an operation too many", report[UNDRELVOA_REPORT_ENDING], UNDRELVOA_LENGTH);
-    undrelvoa_validate(little8, 2, 0, 0, UNDRELVOA_MAX_SPACE_BYTES + 1, list, words, report, 5);
+    undrelvoa_validate(little8, 5, 0, 0, UNDRELVOA_MAX_SPACE_BYTES + 1, list, words, report, 5);
     expect("a byte too many", report[UNDRELVOA_REPORT_ENDING], UNDRELVOA_LENGTH);
     list[0] = copy + 1 + ((uint64_t)1 << 8);
-    undrelvoa_validate(little8, 2, 0, 0, UNDRELVOA_MAX_SPACE_BYTES, list, words, report, 5);
+    undrelvoa_validate(little8, 5, 0, 0, UNDRELVOA_MAX_SPACE_BYTES, list, words, report, 5);
     expect("a size too large", report[UNDRELVOA_REPORT_ENDING], UNDRELVOA_SHAPE);
 }
 
-/* Settings of 0 to 3 words: only two are taken, and a refused call changes nothing. */
+/* Settings of 0 to 6 words: only five are taken, and a refused call changes nothing. */
 static void settings(void) {
-    const uint64_t words[3] = {UNDRELVOA_LITTLE, 8, 0};
+    const uint64_t words[6] = {UNDRELVOA_LITTLE, 8, 1, 1, 1, 1};
     uint64_t list[5] = {0, 0, 9, 0, 0};
     size_t n;
     list[0] = UNDRELVOA_OPERATION_HEAD(UNDRELVOA_COPY, UNDRELVOA_DESCRIPTOR(UNDRELVOA_SPACE_UNIQUE, 1),
                                        UNDRELVOA_DESCRIPTOR(UNDRELVOA_SPACE_CONSTANT, 1), 0, 0);
-    for (n = 0; n <= 3; n++) {
+    for (n = 0; n <= 6; n++) {
         uint64_t wanted = n == UNDRELVOA_SETTINGS_WORDS ? UNDRELVOA_ANSWER_DONE : UNDRELVOA_ANSWER_LENGTH;
         int call;
         for (call = 0; call < 5; call++) {
@@ -248,6 +251,51 @@ static void settings(void) {
     expect("no settings at all", undrelvoa_validate(NULL, 0, 1, 0, 0, list, 5, NULL, 0), UNDRELVOA_ANSWER_LENGTH);
 }
 
+/* Known results: ram of 12 bytes has four 24-bit words. The pointer 3 is the byte offset 9, the pointer 4 is BOUNDS. */
+static void wordsizes(void) {
+    const uint64_t unique_word = UNDRELVOA_DESCRIPTOR(UNDRELVOA_SPACE_UNIQUE, 3), byte = UNDRELVOA_DESCRIPTOR(UNDRELVOA_SPACE_CONSTANT, 1);
+    uint64_t words[UNDRELVOA_SETTINGS_WORDS] = {UNDRELVOA_LITTLE, 1, 1, 1, 1};
+    uint64_t list[5] = {0, 0, UNDRELVOA_SPACE_RAM, 3, 0};
+    uint8_t unique[3] = {0}, ram[12] = {0}, of_unique[3] = {0}, of_ram[12] = {0};
+    uint64_t log[1] = {8}, report[5] = {7, 7, 7, 7, 7};
+    size_t i;
+    words[UNDRELVOA_SETTINGS_RAM_WORDSIZE] = 3;
+    list[0] = UNDRELVOA_OPERATION_HEAD(UNDRELVOA_LOAD, unique_word, byte, byte, UNDRELVOA_ABSENT);
+    ram[9] = 0x12;
+    ram[11] = 0x56;
+    of_ram[10] = UNDRELVOA_SECRET;
+    expect("run", undrelvoa_run(words, 5, list, 5, 0, 9, unique, 3, NULL, 0, ram, 12, log, 1, report, 5), 0);
+    expect("the last word", report[UNDRELVOA_REPORT_ENDING], UNDRELVOA_END);
+    expect("its byte offset", log[0], 9);
+    expect("its first byte", unique[0], 0x12);
+    expect("its last byte", unique[2], 0x56);
+    expect("labelled run", undrelvoa_labelled_run(words, 5, list, 5, 0, 9, unique, 3, NULL, 0, ram, 12, of_unique, 3, NULL, 0, of_ram, 12, log, 1, report, 5), 0);
+    expect("its first label", of_unique[0], UNDRELVOA_SECRET);
+    expect("its last label", of_unique[2], UNDRELVOA_SECRET);
+    list[0] = UNDRELVOA_OPERATION_HEAD(UNDRELVOA_STORE, UNDRELVOA_ABSENT, byte, byte, unique_word);
+    list[3] = 1;
+    expect("labelled step", undrelvoa_labelled_step(words, 5, list, 5, 0, unique, 3, NULL, 0, ram, 12, of_unique, 3, NULL, 0, of_ram, 12, log, 1, report, 5), 0);
+    expect("the second word", log[0], 3);
+    expect("its first byte", ram[3], 0x12);
+    expect("its first label", of_ram[3], UNDRELVOA_SECRET);
+    expect("its last label", of_ram[5], UNDRELVOA_SECRET);
+    expect("the byte at the pointer", ram[1], 0);
+    expect("the label at the pointer", of_ram[1], UNDRELVOA_PUBLIC);
+    list[3] = 4;
+    expect("step", undrelvoa_step(words, 5, list, 5, 0, unique, 3, NULL, 0, ram, 12, log, 1, report, 5), 0);
+    expect("the word after the last", report[UNDRELVOA_REPORT_ENDING], UNDRELVOA_BOUNDS);
+    for (i = UNDRELVOA_SETTINGS_UNIQUE_WORDSIZE; i <= UNDRELVOA_SETTINGS_RAM_WORDSIZE; i++) {
+        const uint64_t before = words[i];
+        words[i] = 9;
+        expect("validate", undrelvoa_validate(words, 5, 3, 0, 12, list, 5, report, 5), 0);
+        expect("a wordsize of 9", report[UNDRELVOA_REPORT_ENDING], UNDRELVOA_SETTING);
+        words[i] = 0;
+        expect("run", undrelvoa_run(words, 5, list, 5, 0, 9, unique, 3, NULL, 0, ram, 12, log, 1, report, 5), 0);
+        expect("a wordsize of 0", report[UNDRELVOA_REPORT_ENDING], UNDRELVOA_SETTING);
+        words[i] = before;
+    }
+}
+
 /* Every buffer without elements may be NULL. */
 static void empty(void) {
     uint64_t report[5] = {7, 7, 7, 7, 7}, place[3] = {7, 7, 7};
@@ -255,15 +303,15 @@ static void empty(void) {
     expect("gather", undrelvoa_gather(UNDRELVOA_LITTLE, NULL, 0, 0, 1, report, 1), UNDRELVOA_ANSWER_RANGE);
     expect("gather", undrelvoa_gather(UNDRELVOA_LITTLE, NULL, 0, 0, 1, NULL, 0), UNDRELVOA_ANSWER_LENGTH);
     expect("scatter", undrelvoa_scatter(UNDRELVOA_BIG, NULL, 0, 0, 1, 0), UNDRELVOA_ANSWER_RANGE);
-    expect("validate", undrelvoa_validate(little8, 2, 0, 0, 0, NULL, 0, report, 5), 0);
+    expect("validate", undrelvoa_validate(little8, 5, 0, 0, 0, NULL, 0, report, 5), 0);
     expect("an empty list", report[UNDRELVOA_REPORT_ENDING], UNDRELVOA_END);
-    expect("run", undrelvoa_run(little8, 2, NULL, 0, 0, 9, NULL, 0, NULL, 0, NULL, 0, NULL, 0, report, 5), 0);
+    expect("run", undrelvoa_run(little8, 5, NULL, 0, 0, 9, NULL, 0, NULL, 0, NULL, 0, NULL, 0, report, 5), 0);
     expect("an empty run", report[UNDRELVOA_REPORT_ENDING], UNDRELVOA_END);
-    expect("step", undrelvoa_step(little8, 2, NULL, 0, 1, NULL, 0, NULL, 0, NULL, 0, NULL, 0, report, 5), 0);
+    expect("step", undrelvoa_step(little8, 5, NULL, 0, 1, NULL, 0, NULL, 0, NULL, 0, NULL, 0, report, 5), 0);
     expect("a step after the end", report[UNDRELVOA_REPORT_ENDING], UNDRELVOA_START);
-    expect("labelled run", undrelvoa_labelled_run(little8, 2, NULL, 0, 0, 9, NULL, 0, NULL, 0, NULL, 0, NULL, 0, NULL, 0, NULL, 0, NULL, 0, report, 5), 0);
+    expect("labelled run", undrelvoa_labelled_run(little8, 5, NULL, 0, 0, 9, NULL, 0, NULL, 0, NULL, 0, NULL, 0, NULL, 0, NULL, 0, NULL, 0, report, 5), 0);
     expect("an empty run", report[UNDRELVOA_REPORT_ENDING], UNDRELVOA_END);
-    expect("labelled step", undrelvoa_labelled_step(little8, 2, NULL, 0, 0, NULL, 0, NULL, 0, NULL, 0, NULL, 0, NULL, 0, NULL, 0, NULL, 0, NULL, 0), UNDRELVOA_ANSWER_LENGTH);
+    expect("labelled step", undrelvoa_labelled_step(little8, 5, NULL, 0, 0, NULL, 0, NULL, 0, NULL, 0, NULL, 0, NULL, 0, NULL, 0, NULL, 0, NULL, 0), UNDRELVOA_ANSWER_LENGTH);
     expect("show", undrelvoa_show(NULL, 0, NULL, 0, NULL, 0, UNDRELVOA_SPACE_RAM, 0, 1, place, UNDRELVOA_PLACE_WORDS), 0);
     expect("nothing to show", place[UNDRELVOA_PLACE_SPACE] + place[UNDRELVOA_PLACE_OFFSET] + place[UNDRELVOA_PLACE_BYTES], 0);
     expect("show", undrelvoa_show(NULL, 0, NULL, 0, NULL, 0, UNDRELVOA_SPACE_RAM, 0, 1, NULL, 0), UNDRELVOA_ANSWER_LENGTH);
@@ -278,9 +326,9 @@ static void *count_down(void *from) {
     uint64_t log[256], report[5];
     registers[0] = *(uint8_t *)from;
     if (registers[0] % 2 == 0) {
-        undrelvoa_run(little8, 2, loop, 10, 0, 100000, NULL, 0, registers, 2, NULL, 0, log, 256, report, 5);
+        undrelvoa_run(little8, 5, loop, 10, 0, 100000, NULL, 0, registers, 2, NULL, 0, log, 256, report, 5);
     } else {
-        undrelvoa_labelled_run(little8, 2, loop, 10, 0, 100000, NULL, 0, registers, 2, NULL, 0, NULL, 0, labels, 2, NULL, 0, log, 256, report, 5);
+        undrelvoa_labelled_run(little8, 5, loop, 10, 0, 100000, NULL, 0, registers, 2, NULL, 0, NULL, 0, labels, 2, NULL, 0, log, 256, report, 5);
     }
     *(uint8_t *)from = report[UNDRELVOA_REPORT_ENDING] == UNDRELVOA_END && registers[0] == 0
                        && report[UNDRELVOA_REPORT_LOGGED] * 2 == report[UNDRELVOA_REPORT_EXECUTED]
@@ -323,6 +371,7 @@ int main(void) {
     shown();
     limits();
     settings();
+    wordsizes();
     empty();
     threads();
     printf("%d passed, %d failed\n", passed, failed);

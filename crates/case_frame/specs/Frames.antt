@@ -37,9 +37,21 @@ ramColumn = registerColumn + numberDigits
 abbrev pub budgetColumn : ℕ
 budgetColumn = ramColumn + numberDigits
 
+-- 01: the wordsize of unique.
+abbrev pub uniqueWordsizeColumn : ℕ
+uniqueWordsizeColumn = budgetColumn + numberDigits
+
+-- 01: the wordsize of register.
+abbrev pub registerWordsizeColumn : ℕ
+registerWordsizeColumn = uniqueWordsizeColumn + byteDigits
+
+-- 01: the wordsize of ram.
+abbrev pub ramWordsizeColumn : ℕ
+ramWordsizeColumn = registerWordsizeColumn + byteDigits
+
 -- The digits of an 01 line.
 abbrev pub openingLength : ℕ
-openingLength = budgetColumn + numberDigits
+openingLength = ramWordsizeColumn + byteDigits
 
 -- 02 and 03: the space.
 abbrev pub spaceColumn : ℕ
@@ -75,12 +87,16 @@ longestFrame = max operationLength (bytesLength mostFrameBytes)
 
 -- ---- the frames
 
--- 01: byte order, A (2 digits each), lengths of unique, register, ram and budget (8 each).
+-- 01: byte order, A (2 digits each), lengths of unique, register, ram and budget (8 each), wordsizes of unique, register, ram (2 each).
 unfoldable pub openingOf : (line : List ℕ) → Frame
 openingOf s =
     cond (eqb (length s) openingLength)
     (Opening
-    (record { order = numberAt s orderColumn byteDigits; «address_size» = numberAt s addressSizeColumn byteDigits })
+    (record {
+      order = numberAt s orderColumn byteDigits;
+      «address_size» = numberAt s addressSizeColumn byteDigits;
+      wordsizes = record { unique = numberAt s uniqueWordsizeColumn byteDigits; register = numberAt s registerWordsizeColumn byteDigits; ram = numberAt s ramWordsizeColumn byteDigits };
+    })
     (record { unique = numberAt s uniqueColumn numberDigits; register = numberAt s registerColumn numberDigits; ram = numberAt s ramColumn numberDigits })
     (numberAt s budgetColumn numberDigits))
     Bad
@@ -122,25 +138,27 @@ frameOf s = cond (leb byteDigits (length s) && allDigits s) (frameBy (numberAt s
 -- how many bytes or labels.
 unfoldable pub numbersOf : Frame → List ℕ
 numbersOf (Opening settings lengths budget) =
-    1 ∷ settings .order ∷ settings .«address_size» ∷ lengths .unique ∷ lengths .register ∷ lengths .ram ∷ budget ∷ []
+    1 ∷ settings .order ∷ settings .«address_size» ∷ lengths .unique ∷ lengths .register ∷ lengths .ram ∷ budget
+    ∷ settings .wordsizes .unique ∷ settings .wordsizes .register ∷ settings .wordsizes .ram ∷ []
 numbersOf (Bytes false space offset count) = 2 ∷ space ∷ offset ∷ count ∷ []
 numbersOf (Bytes true space offset count) = 3 ∷ space ∷ offset ∷ count ∷ []
 numbersOf Operation = 4 ∷ []
 numbersOf Bad = 0 ∷ []
 
--- Whether a frame of a kind can have this many digits.
+-- Whether a frame of a kind can have this many digits. Digits and columns are written as numbers from here on, so that a slip in those
+-- named above shows.
 unfoldable pub lengthAllowed : (kind digits : ℕ) → Bool
 lengthAllowed kind n =
-    cond (eqb kind 1) (eqb n openingLength)
-    (cond (eqb kind 2 || eqb kind 3)
-    (leb (bytesLength 1) n && leb n (bytesLength mostFrameBytes) && eqb (n % byteDigits) 0)
-    (eqb kind 4 && eqb n operationLength))
+    cond (eqb kind 1) (eqb n 44)
+    (cond (eqb kind 2 || eqb kind 3) (leb 14 n && leb n 76 && eqb (n % 2) 0)
+    (eqb kind 4 && eqb n 82))
 
--- The values on a line of a kind. Columns and digits are written as numbers here, so that a slip in those named above shows.
+-- The values on a line of a kind.
 unfoldable pub valuesOn : (kind : ℕ) → (line : List ℕ) → List ℕ
 valuesOn kind s =
     cond (eqb kind 1)
-    (numberAt s 2 2 ∷ numberAt s 4 2 ∷ numberAt s 6 8 ∷ numberAt s 14 8 ∷ numberAt s 22 8 ∷ numberAt s 30 8 ∷ [])
+    (numberAt s 2 2 ∷ numberAt s 4 2 ∷ numberAt s 6 8 ∷ numberAt s 14 8 ∷ numberAt s 22 8 ∷ numberAt s 30 8
+    ∷ numberAt s 38 2 ∷ numberAt s 40 2 ∷ numberAt s 42 2 ∷ [])
     (cond (eqb kind 2 || eqb kind 3) (numberAt s 2 2 ∷ numberAt s 4 8 ∷ ((length s - 12) / 2) ∷ []) [])
 
 -- The numbers on a line: those of its frame, or 0 alone.

@@ -14,6 +14,7 @@ use integer::boolean::both;
 use operation::layout::Lengths;
 use operation::layout::Settings;
 use operation::layout::WORDS_PER_OPERATION;
+use operation::layout::Wordsizes;
 
 // Where the parts of frame 01 lie, behind its kind, and the digits of its line.
 const ORDER_COLUMN: usize = BYTE_DIGITS;
@@ -28,7 +29,13 @@ const RAM_COLUMN: usize = REGISTER_COLUMN + NUMBER_DIGITS;
 
 const BUDGET_COLUMN: usize = RAM_COLUMN + NUMBER_DIGITS;
 
-const OPENING_LENGTH: usize = BUDGET_COLUMN + NUMBER_DIGITS;
+const UNIQUE_WORDSIZE_COLUMN: usize = BUDGET_COLUMN + NUMBER_DIGITS;
+
+const REGISTER_WORDSIZE_COLUMN: usize = UNIQUE_WORDSIZE_COLUMN + BYTE_DIGITS;
+
+const RAM_WORDSIZE_COLUMN: usize = REGISTER_WORDSIZE_COLUMN + BYTE_DIGITS;
+
+const OPENING_LENGTH: usize = RAM_WORDSIZE_COLUMN + BYTE_DIGITS;
 
 // Those of frames 02 and 03, the bytes that one can have, and the digits of a line with one byte and with the most.
 const SPACE_COLUMN: usize = BYTE_DIGITS;
@@ -115,10 +122,18 @@ fn opening_of(s: &[u8]) -> Frame
     let register = number(s, REGISTER_COLUMN, NUMBER_DIGITS);
     let ram = number(s, RAM_COLUMN, NUMBER_DIGITS);
     let budget = number(s, BUDGET_COLUMN, NUMBER_DIGITS);
+    let unique_wordsize = number(s, UNIQUE_WORDSIZE_COLUMN, BYTE_DIGITS);
+    let register_wordsize = number(s, REGISTER_WORDSIZE_COLUMN, BYTE_DIGITS);
+    let ram_wordsize = number(s, RAM_WORDSIZE_COLUMN, BYTE_DIGITS);
     Frame::Opening {
         settings: Settings {
             order: order,
             address_size: address_size,
+            wordsizes: Wordsizes {
+                unique: unique_wordsize,
+                register: register_wordsize,
+                ram: ram_wordsize,
+            },
         },
         lengths: Lengths {
             unique: unique,

@@ -1,9 +1,11 @@
--- Laws of Booleans.
+-- Laws of Booleans and of tests.
 use mathlib.Core.Path.{_≡_, refl, _∙_}
 use mathlib.Core.Bool.{Bool, true, false, cond, not, xor, _&&_, _||_}
 use native.Mathlib.Omega.{arith}
-use Prim.Native.Nat.{ℕ, _<_}
-use lib.Dec.{lit<}
+use Prim.Native.Nat.{ℕ, _<_, _≤_}
+use borrow.Author.Tests.{leb-true}
+use lib.Dec.{lit<, leb}
+use Rattle.word.specs.Word.{isSize}
 use Rattle.integer.specs.Operations.{flag}
 
 pub xor-false : (t : Bool) → xor false t ≡ t
@@ -53,3 +55,8 @@ pub flag-lt : (t : Bool) → flag t < 2
 unfolding flag
 flag-lt true = lit< tt
 flag-lt false = lit< tt
+
+-- a size is 1 to 8
+pub one-to-eight : (n : ℕ) → isSize n ≡ true → (1 ≤ n) × (n ≤ 8)
+unfolding isSize
+one-to-eight n t = let e = both (leb 1 n) (leb n 8) t in (leb-true 1 n (e .0), leb-true n 8 (e .1))

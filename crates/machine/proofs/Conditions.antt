@@ -1,7 +1,7 @@
 -- The definitions meet the exact conditions.
 use Prim.Native.Nat.{ℕ, zero, suc, _+_, _*_, _-_, _%_, _^_, _<_, _≤_}
 use native.Mathlib.Omega.{arith}
-use mathlib.Core.Path.{_≡_, refl, sym, ap, _∙_}
+use mathlib.Core.Path.{_≡_, refl, sym, ap, subst, _∙_}
 use mathlib.Core.Bool.{Bool, true, false, cond, not, _&&_, _||_}
 use mathlib.Core.List.{List, [], _∷_}
 use borrow.Author.Tests.{eqb-true, eqb-false, ltb-true, ltb-false, leb-true, le-leb, lt-leb, ne-eqb, not-false}
@@ -20,12 +20,12 @@ use Rattle.machine.specs.Program.{Program, bigEndian}
 use Rattle.machine.specs.Memory.{Memory, OfBytes, lengthsOf, spaceOf, withSpace, bytesAt, written, valueAt}
 use Rattle.operation.specs.Layout.{absent, wordsPerOperation, operationCount, wordAt, offsetAt, describedBy, varnodeAt}
 use Rattle.machine.specs.Effect.{Operation, operationAt, Kind, kindOf, moves, dropped, computed, anySecret, secret, sinks, tested, valuesOf, pointee, sources}
-use Rattle.machine.specs.Effect.{target, bytesWritten, labelsWritten}
-use Rattle.machine.specs.Run.{Stop, Decision, Position, Stepped, indexOf, goTo, logWord, logging, access, checked, decided, advanced, ended, endingOf, testedValue}
+use Rattle.machine.specs.Effect.{byteOffset, resolved, target, bytesWritten, labelsWritten}
+use Rattle.machine.specs.Run.{Stop, Decision, Position, Stepped, indexOf, goTo, logWord, logging, access, checked, decided, advanced, ended, endingOf, resolvedValue}
 use Rattle.machine.specs.Run.{applyDecision, executeAs, execute, stepped, continued, run}
 use Rattle.machine.specs.Conditions.{hasSecret, leaks, exceedsSpace, taken, branchTaken, outOfBounds, dividesByZero, writesLog, lowPart, logWordOf, exits}
 use Rattle.machine.specs.Conditions.{destination, nextIndex, destinationBytes, becomesSecret, valueComputed, valueMoved, valueWritten, positionAfter, exactStepWith}
-use Rattle.machine.specs.Conditions.{labelsAfter, exactStep, exactStepWithin, Words, ExactConditions}
+use Rattle.machine.specs.Conditions.{operand1, labelsAfter, exactStep, exactStepWithin, Words, ExactConditions}
 use Rattle.operation.specs.Rules.{accesses, namesSpace, isDestination, breaksPlace, branches, jumps, relativeTarget}
 use Rattle.operation.proofs.Targets.{wrapping}
 use lib.IntN.{pos}
@@ -113,6 +113,15 @@ when {A} n k same other = by (eqb n k) refl
     by : (t : Bool) → eqb n k ≡ t → A
     by true e = same (eqb-true n k e)
     by false e = other e
+
+-- the spaces with bytes, one by one
+pub each-space : (P : ℕ → Type 0) → P 2 → P 3 → P 4 → (space : ℕ) → 2 ≤ space → space ≤ 4 → P space
+each-space P p2 p3 p4 space low high =
+    when space 2 (λ e. subst P (sym e) p2) (λ n2. when space 3 (λ e. subst P (sym e) p3) (λ n3. when space 4 (λ e. subst P (sym e) p4) (λ n4.
+    let not2 = eqb-false space 2 n2 in
+    let not3 = eqb-false space 3 n3 in
+    let not4 = eqb-false space 4 n4 in
+    absurd (let z : ⊥ = omega arith in z))))
 
 pub no-division : (n : ℕ) → eqb n 35 ≡ false → eqb n 36 ≡ false → eqb n 37 ≡ false → eqb n 38 ≡ false → divides n ≡ false
 unfolding divides
@@ -282,8 +291,16 @@ module _ (program : Program) (op : Operation) (at : Position) (labels m : Memory
   abbrev a : ℕ
   a = valueAt (program .settings) m (op .input0)
 
+  abbrev value1 : ℕ
+  value1 = valueAt (program .settings) m (op .input1)
+
+  -- the number that input1 stands for, by the opcode
   abbrev b : ℕ
-  b = valueAt (program .settings) m (op .input1)
+  b = operand1 program m op
+
+  -- and as a pointer
+  abbrev offset1 : ℕ
+  offset1 = byteOffset (program .settings) op value1
 
   exactStep-by : exactStep program op at labels m
       ≡ exactStepBy (leaks labels op) (outOfBounds m op b) (dividesByZero op b) (writesLog op) (exits op b) (logWordOf op (at .index) b)
@@ -312,14 +329,14 @@ module _ (program : Program) (op : Operation) (at : Position) (labels m : Memory
   module _ (word to next : ℕ) (place : Varnode) (hidden : Bool) (value : ℕ) where
     -- a kind with nothing that must be public, and nothing to check
     unchecked : (k : Kind) → sinks k op ≡ [] → ((i extent room x : ℕ) → checked k op i extent room x ≡ Decision.next [] (suc i))
-        → next ≡ suc (at .index) → Writes k (testedValue program k op m) place hidden value
+        → next ≡ suc (at .index) → Writes k (resolvedValue program k op m) place hidden value
         → executeAs program k op at labels m ≡ exactStepBy false false false false false word to next place hidden value
-    unfolding executeAs decided testedValue tested secret exactStepBy
+    unfolding executeAs decided resolvedValue tested secret exactStepBy
     unchecked k e f n w = rw (e, f, n) (goes k _ (suc (at .index)) [] w)
 
     jumped : to ≡ a
         → executeAs program Kind.jump op at labels m ≡ exactStepBy (hasSecret labels (op .input0)) false false false true word to next place hidden value
-    unfolding executeAs sinks testedValue tested exactStepBy applyDecision decided checked endingOf
+    unfolding executeAs sinks resolvedValue resolved tested exactStepBy applyDecision decided checked endingOf
     jumped e = rw (one-secret labels (op .input0), ← e) (by (hasSecret labels (op .input0)))
       where
         by : (t : Bool) → applyDecision program Kind.jump op at labels m to (cond t (Decision.stop Stop.leak) (Decision.exit [] to))
@@ -327,38 +344,38 @@ module _ (program : Program) (op : Operation) (at : Position) (labels m : Memory
         by true = refl
         by false = refl
 
-    divided : next ≡ suc (at .index) → (hasSecret labels (op .input1) ≡ false → Writes Kind.divide (b) place hidden value)
+    divided : next ≡ suc (at .index) → (hasSecret labels (op .input1) ≡ false → Writes Kind.divide value1 place hidden value)
         → executeAs program Kind.divide op at labels m
-        ≡ exactStepBy (hasSecret labels (op .input1)) false (eqb (b) 0) false false word to next place hidden value
-    unfolding executeAs sinks testedValue tested exactStepBy applyDecision decided checked endingOf
-    divided n w = rw (one-secret labels (op .input1), n) (by (hasSecret labels (op .input1)) refl (eqb (b) 0))
+        ≡ exactStepBy (hasSecret labels (op .input1)) false (eqb value1 0) false false word to next place hidden value
+    unfolding executeAs sinks resolvedValue resolved tested exactStepBy applyDecision decided checked endingOf
+    divided n w = rw (one-secret labels (op .input1), n) (by (hasSecret labels (op .input1)) refl (eqb value1 0))
       where
         by : (t : Bool) → hasSecret labels (op .input1) ≡ t → (z : Bool)
-            → applyDecision program Kind.divide op at labels m (b)
+            → applyDecision program Kind.divide op at labels m value1
             (cond t (Decision.stop Stop.leak) (cond z (Decision.stop Stop.zeroDivisor) (Decision.next [] (suc (at .index)))))
             ≡ exactStepBy t false z false false word to (suc (at .index)) place hidden value
         by true e z = refl
         by false e true = refl
-        by false e false = goes Kind.divide (b) (suc (at .index)) [] (w e)
+        by false e false = goes Kind.divide value1 (suc (at .index)) [] (w e)
 
     -- LOAD and STORE
-    accessed : (k : Kind) (size : ℕ) → sinks k op ≡ op .input1 ∷ [] → tested k op ≡ op .input1
+    accessed : (k : Kind) (size : ℕ) → sinks k op ≡ op .input1 ∷ [] → tested k op ≡ op .input1 → ((x : ℕ) → resolved (program .settings) k op x ≡ byteOffset (program .settings) op x)
         → ((i extent room x : ℕ) → checked k op i extent room x ≡ access i extent room x size)
-        → next ≡ suc (at .index) → word ≡ logWord (at .index) (b)
-        → (hasSecret labels (op .input1) ≡ false → Writes k (b) place hidden value)
+        → next ≡ suc (at .index) → word ≡ logWord (at .index) offset1
+        → (hasSecret labels (op .input1) ≡ false → Writes k offset1 place hidden value)
         → executeAs program k op at labels m
-        ≡ exactStepBy (hasSecret labels (op .input1)) (not (leb (b + size) (length (spaceOf m (op .input0 .offset))))) false true false
+        ≡ exactStepBy (hasSecret labels (op .input1)) (not (leb (offset1 + size) (length (spaceOf m (op .input0 .offset))))) false true false
         word to next place hidden value
-    unfolding executeAs testedValue tested exactStepBy applyDecision decided access logging endingOf
-    accessed k size g u c n l w =
-        rw (g, u, c, one-secret labels (op .input1), n, l)
-        (by (hasSecret labels (op .input1)) refl (leb (b + size) (length (spaceOf m (op .input0 .offset)))) (eqb (at .room) 0))
+    unfolding executeAs resolvedValue tested exactStepBy applyDecision decided access logging endingOf
+    accessed k size g u v c n l w =
+        rw (g, u, v value1, c, one-secret labels (op .input1), n, l)
+        (by (hasSecret labels (op .input1)) refl (leb (offset1 + size) (length (spaceOf m (op .input0 .offset)))) (eqb (at .room) 0))
       where
         written-word : ℕ
-        written-word = logWord (at .index) (b)
+        written-word = logWord (at .index) offset1
 
         by : (t : Bool) → hasSecret labels (op .input1) ≡ t → (u z : Bool)
-            → applyDecision program k op at labels m (b)
+            → applyDecision program k op at labels m offset1
             (cond t (Decision.stop Stop.leak) (cond u (cond z (Decision.stop Stop.logFull) (Decision.next (written-word ∷ []) (suc (at .index)))) (Decision.stop Stop.bounds)))
             ≡ cond t (Stepped.halted (ended 31 0 at labels m))
             (cond (not u) (Stepped.halted (ended 32 0 at labels m))
@@ -369,7 +386,7 @@ module _ (program : Program) (op : Operation) (at : Position) (labels m : Memory
         by true e u z = refl
         by false e false z = refl
         by false e true true = refl
-        by false e true false = goes k (b) (suc (at .index)) (written-word ∷ []) (w e)
+        by false e true false = goes k offset1 (suc (at .index)) (written-word ∷ []) (w e)
 
     -- BRANCH, CALL and CBRANCH write nothing
     module _ (k : Kind) (x : ℕ) (nothing : target k op x ≡ absent) (e : place ≡ absent) where
@@ -391,20 +408,20 @@ module _ (program : Program) (op : Operation) (at : Position) (labels m : Memory
     branched : to ≡ op .input0 .offset → next ≡ cond (eqb (op .input0 .space) 1) ((at .index + op .input0 .offset) % 2 ^ 64) (suc (at .index))
         → place ≡ absent → Destination (at .index) (op .input0)
         → executeAs program Kind.branch op at labels m ≡ exactStepBy false false false false (eqb (op .input0 .space) 4) word to next place hidden value
-    unfolding executeAs sinks testedValue tested secret decided checked exactStepBy target
+    unfolding executeAs sinks resolvedValue resolved tested secret decided checked exactStepBy target
     branched t n e d = rw (t, n) (gone Kind.branch _ refl e [] d)
 
-    cbranched : word ≡ logWord (at .index) (flag (not (eqb (b) 0))) → to ≡ op .input0 .offset
-        → next ≡ cond (not (eqb (b) 0) && eqb (op .input0 .space) 1) ((at .index + op .input0 .offset) % 2 ^ 64) (suc (at .index))
+    cbranched : word ≡ logWord (at .index) (flag (not (eqb value1 0))) → to ≡ op .input0 .offset
+        → next ≡ cond (not (eqb value1 0) && eqb (op .input0 .space) 1) ((at .index + op .input0 .offset) % 2 ^ 64) (suc (at .index))
         → place ≡ absent → Destination (at .index) (op .input0)
         → executeAs program Kind.cbranch op at labels m
-        ≡ exactStepBy (hasSecret labels (op .input1)) false false true (not (eqb (b) 0) && eqb (op .input0 .space) 4) word to next place hidden value
-    unfolding executeAs sinks testedValue tested decided checked applyDecision exactStepBy target logging flag endingOf
+        ≡ exactStepBy (hasSecret labels (op .input1)) false false true (not (eqb value1 0) && eqb (op .input0 .space) 4) word to next place hidden value
+    unfolding executeAs sinks resolvedValue resolved tested decided checked applyDecision exactStepBy target logging flag endingOf
     cbranched l t n e d =
-        rw (one-secret labels (op .input1), l, t, n) (by (hasSecret labels (op .input1)) (eqb (b) 0) (eqb (at .room) 0))
+        rw (one-secret labels (op .input1), l, t, n) (by (hasSecret labels (op .input1)) (eqb value1 0) (eqb (at .room) 0))
       where
         by : (t z f : Bool)
-            → applyDecision program Kind.cbranch op at labels m (b)
+            → applyDecision program Kind.cbranch op at labels m value1
             (cond t (Decision.stop Stop.leak)
             (cond z (cond f (Decision.stop Stop.logFull) (Decision.next (logWord (at .index) 0 ∷ []) (suc (at .index))))
             (cond f (Decision.stop Stop.logFull) (goTo (at .index) (op .input0) (logWord (at .index) 1 ∷ [])))))
@@ -420,29 +437,30 @@ module _ (program : Program) (op : Operation) (at : Position) (labels m : Memory
         by false true true = refl
         by false false true = refl
         by false true false =
-            goes Kind.cbranch (b) (suc (at .index)) (logWord (at .index) 0 ∷ [])
-            (writes-nothing Kind.cbranch (b) refl e)
-        by false false false = gone Kind.cbranch (b) refl e (logWord (at .index) 1 ∷ []) d
+            goes Kind.cbranch value1 (suc (at .index)) (logWord (at .index) 0 ∷ [])
+            (writes-nothing Kind.cbranch value1 refl e)
+        by false false false = gone Kind.cbranch value1 refl e (logWord (at .index) 1 ∷ []) d
 
   exactStepAs : Class → Stepped
   exactStepAs c =
       let s0 : Bool = hasSecret labels (op .input0) in
       let s1 : Bool = hasSecret labels (op .input1) in
+      let x : ℕ = cond (c .pointer) offset1 value1 in
       exactStepBy
       ((c .pointer && s1) || (c .condition && s1) || (c .indirect && s0) || (c .divisor && s1))
-      ((c .loads && exceedsSpace m (pointee op b (op .output .size))) || (c .stores && exceedsSpace m (pointee op b (op .input2 .size))))
-      (c .divisor && eqb b 0)
+      ((c .loads && exceedsSpace m (pointee op x (op .output .size))) || (c .stores && exceedsSpace m (pointee op x (op .input2 .size))))
+      (c .divisor && eqb x 0)
       (c .logs)
-      (((c .direct || (c .condition && not (eqb b 0))) && eqb (op .input0 .space) 4) || c .indirect)
-      (at .index * 2 ^ 32 + cond (c .condition) (flag (c .condition && not (eqb b 0))) b)
+      (((c .direct || (c .condition && not (eqb x 0))) && eqb (op .input0 .space) 4) || c .indirect)
+      (at .index * 2 ^ 32 + cond (c .condition) (flag (c .condition && not (eqb x 0))) x)
       (cond (c .indirect) (a) (op .input0 .offset))
-      (cond ((c .direct || (c .condition && not (eqb b 0))) && eqb (op .input0 .space) 1) ((at .index + op .input0 .offset) % 2 ^ 64) (suc (at .index)))
-      (cond (c .stores) (pointee op b (op .input2 .size)) (op .output))
-      (cond (c .stores) (hasSecret labels (op .input2)) (s0 || s1 || (c .loads && hasSecret labels (pointee op b (op .output .size)))))
+      (cond ((c .direct || (c .condition && not (eqb x 0))) && eqb (op .input0 .space) 1) ((at .index + op .input0 .offset) % 2 ^ 64) (suc (at .index)))
+      (cond (c .stores) (pointee op x (op .input2 .size)) (op .output))
+      (cond (c .stores) (hasSecret labels (op .input2)) (s0 || s1 || (c .loads && hasSecret labels (pointee op x (op .output .size)))))
       (valueWritten program m op a b)
 
   exactStep-as : (c : Class) → classOf (op .opcode) ≡ c → executeAs program (c .kind) op at labels m ≡ exactStepAs c → execute program op at labels m ≡ exactStep program op at labels m
-  unfolding classOf exactStepAs execute leaks outOfBounds dividesByZero writesLog exits taken branchTaken lowPart logWordOf destination nextIndex destinationBytes becomesSecret
+  unfolding classOf exactStepAs execute leaks outOfBounds dividesByZero writesLog exits taken branchTaken lowPart logWordOf destination nextIndex destinationBytes becomesSecret operand1 byteOffset
   exactStep-as c e h =
       ap (λ (d : Class). executeAs program (d .kind) op at labels m) e ∙ h ∙ sym (ap exactStepAs e) ∙ sym exactStep-by
 
@@ -512,61 +530,61 @@ module _ (program : Program) (op : Operation) (at : Position) (labels m : Memory
     unfolding conditionalBranch exactStepAs logWord
     meets-cbranch c e d =
         exactStep-as conditionalBranch c
-        (rw (or-false (hasSecret labels (op .input1)), or-false (hasSecret labels (op .input1)), or-false (not (eqb (b) 0) && eqb (op .input0 .space) 4))
+        (rw (or-false (hasSecret labels (op .input1)), or-false (hasSecret labels (op .input1)), or-false (not (eqb value1 0) && eqb (op .input0 .space) 4))
         (cbranched _ _ _ _ _ _ refl refl refl e d))
 
-    pointee-fits : accesses (op .opcode) ≡ true → (size : ℕ) → valueAt (program .settings) m (pointee op b size) < 256 ^ size
+    pointee-fits : accesses (op .opcode) ≡ true → (size : ℕ) → valueAt (program .settings) m (pointee op offset1 size) < 256 ^ size
     unfolding pointee namesSpace
     pointee-fits a size =
         let n = both (eqb (op .input0 .space) 1 && leb 2 (op .input0 .offset)) (leb (op .input0 .offset) 4) (f .named a) in
         let l = both (eqb (op .input0 .space) 1) (leb 2 (op .input0 .offset)) (n .0) in
-        value-fits (program .settings) m (pointee op b size) bytes
+        value-fits (program .settings) m (pointee op offset1 size) bytes
         (λ e. let k : 2 ≤ op .input0 .offset = leb-true 2 (op .input0 .offset) (l .1) in absurd (let z : ⊥ = omega arith in z))
 
     meets-load : classOf (op .opcode) ≡ load → op .input0 .space ≡ 1
-        → Bytes (op .output .size) (pointee op b (op .output .size) ∷ []) → Meets
-    unfolding load exactStepAs sinks tested checked target sources pointee exceedsSpace logWord
+        → Bytes (op .output .size) (pointee op offset1 (op .output .size) ∷ []) → Meets
+    unfolding load exactStepAs sinks tested resolved checked target sources pointee exceedsSpace logWord
     meets-load c s e =
         exactStep-as load c
         (rw (
           or-false (hasSecret labels (op .input1)),
           or-false (hasSecret labels (op .input1)),
           or-false (hasSecret labels (op .input1)),
-          or-false (not (leb (b + op .output .size) (length (spaceOf m (op .input0 .offset))))),
+          or-false (not (leb (offset1 + op .output .size) (length (spaceOf m (op .input0 .offset))))),
         )
-        (accessed _ _ _ _ _ _ Kind.load (op .output .size) refl refl (λ i extent room x. refl) refl refl
-        (λ p. writes Kind.load _ _ _ _ refl (one-secret labels (pointee op b (op .output .size)) ∙ rw (p, constant-public labels (op .input0) s) refl) e)))
+        (accessed _ _ _ _ _ _ Kind.load (op .output .size) refl refl (λ x. refl) (λ i extent room x. refl) refl refl
+        (λ p. writes Kind.load _ _ _ _ refl (one-secret labels (pointee op offset1 (op .output .size)) ∙ rw (p, constant-public labels (op .input0) s) refl) e)))
 
     meets-store : classOf (op .opcode) ≡ store
         → Bytes (op .input2 .size) (op .input2 ∷ []) → Meets
-    unfolding store exactStepAs sinks tested checked target sources pointee exceedsSpace logWord
+    unfolding store exactStepAs sinks tested resolved checked target sources pointee exceedsSpace logWord
     meets-store c e =
         exactStep-as store c
         (rw (or-false (hasSecret labels (op .input1)), or-false (hasSecret labels (op .input1)), or-false (hasSecret labels (op .input1)))
-        (accessed _ _ _ _ _ _ Kind.store (op .input2 .size) refl refl (λ i extent room x. refl) refl refl
+        (accessed _ _ _ _ _ _ Kind.store (op .input2 .size) refl refl (λ x. refl) (λ i extent room x. refl) refl refl
         (λ p. writes Kind.store _ _ _ _ refl (one-secret labels (op .input2)) e)))
 
     -- ---- one operation, by its opcode
 
     bytes-copy : op .opcode ≡ 1 → Bytes (op .output .size) (op .input0 ∷ [])
-    unfolding valueWritten valueMoved valueComputed moves dropped member branches
+    unfolding operand1 valueWritten valueMoved valueComputed moves dropped member branches
     bytes-copy e = moved-whole (program .settings) op m (op .input0) (op .output .size) (rw e refl) (rw e refl) bytes (f .fits0 (rw e refl)) ∙ rw e refl
 
     bytes-zext : op .opcode ≡ 19 → Bytes (op .output .size) (op .input0 ∷ [])
-    unfolding valueWritten valueMoved valueComputed result integerResults lookup intZext moves dropped member branches
+    unfolding operand1 valueWritten valueMoved valueComputed result integerResults lookup intZext moves dropped member branches
     bytes-zext e = moved-whole (program .settings) op m (op .input0) (op .output .size) (rw e refl) (rw e refl) bytes (f .fits0 (rw e refl)) ∙ rw e refl
 
-    bytes-load : op .opcode ≡ 2 → Bytes (op .output .size) (pointee op b (op .output .size) ∷ [])
-    unfolding valueWritten valueMoved valueComputed moves dropped member accesses pointee
+    bytes-load : op .opcode ≡ 2 → Bytes (op .output .size) (pointee op offset1 (op .output .size) ∷ [])
+    unfolding operand1 byteOffset valueWritten valueMoved valueComputed moves dropped member accesses pointee
     bytes-load e =
-        moved-whole (program .settings) op m (pointee op b (op .output .size)) (op .output .size) (rw e refl) (rw e refl) bytes (pointee-fits (rw e refl) (op .output .size)) ∙ rw e refl
+        moved-whole (program .settings) op m (pointee op offset1 (op .output .size)) (op .output .size) (rw e refl) (rw e refl) bytes (pointee-fits (rw e refl) (op .output .size)) ∙ rw e refl
 
     bytes-store : op .opcode ≡ 3 → Bytes (op .input2 .size) (op .input2 ∷ [])
-    unfolding valueWritten valueMoved valueComputed moves dropped member
+    unfolding operand1 valueWritten valueMoved valueComputed moves dropped member
     bytes-store e = moved-whole (program .settings) op m (op .input2) (op .input2 .size) (rw e refl) (rw e refl) bytes (f .fits2) ∙ rw e refl
 
     bytes-computed : moves op ≡ false → Bytes (op .output .size) (op .input0 ∷ op .input1 ∷ [])
-    unfolding valueWritten valueMoved valueComputed moves member
+    unfolding operand1 valueWritten valueMoved valueComputed moves member
     bytes-computed e =
         calculated (program .settings) op m (op .output .size) e
         ∙ (let n1 = neither (eqb (op .opcode) 1) (member (op .opcode) (2 ∷ 3 ∷ 10 ∷ 11 ∷ 19 ∷ [])) e in
@@ -575,12 +593,12 @@ module _ (program : Program) (op : Operation) (at : Position) (labels m : Memory
         rw (n1 .0, n2 .0, n3 .0) refl)
 
     bytes-piece : op .opcode ≡ 10 → Bytes (op .output .size) (op .input1 ∷ op .input0 ∷ [])
-    unfolding valueWritten valueMoved valueComputed result integerResults lookup piece moves dropped member branches
+    unfolding operand1 valueWritten valueMoved valueComputed result integerResults lookup piece moves dropped member branches
     bytes-piece e =
         moved-both (program .settings) op m (op .input0) (op .input1) (op .output .size) (rw e refl) (rw e refl) bytes (f .fits0 (rw e refl)) (f .fits1) ∙ rw e refl
 
     bytes-subpiece : op .opcode ≡ 11 → Bytes (op .output .size) (op .input0 ∷ [])
-    unfolding valueWritten valueMoved valueComputed result integerResults lookup subpiece moves dropped member branches
+    unfolding operand1 valueWritten valueMoved valueComputed result integerResults lookup subpiece moves dropped member branches
     bytes-subpiece e =
         moved-part (program .settings) op m (op .input0) (op .input1 .offset) (op .output .size) (rw e refl) (rw e refl) bytes (f .fits0 (rw e refl))
         ∙ ap (λ (k : ℕ). bytesOf (bigEndian (program .settings)) (op .output .size) (subpiece (op .output .size) a k)) (sym (constant-value (program .settings) m (op .input1) (f .constant1 e)))
@@ -632,7 +650,7 @@ destination-of i n v d l small h = by (eqb (v .space) 1) refl
 
 -- rule 23, of a varnode at input0's or input1's place
 module _ (opcode : ℕ) (v : Varnode) where
-  names : breaksPlace opcode 1 v ≡ false → accesses opcode ≡ true → namesSpace v ≡ true
+  pub names : breaksPlace opcode 1 v ≡ false → accesses opcode ≡ true → namesSpace v ≡ true
   unfolding breaksPlace
   names p e = not-false (namesSpace v) (rw e at p)
 

@@ -99,9 +99,9 @@ goto-fits : (room i : ℕ) (v : Varnode) (words : List ℕ) → length words ≤
 unfolding goTo
 goto-fits room i v words h = either (Fits room) (eqb (v .space) 1) _ _ (nexts h) (exited h)
 
-access-fits : (i extent room pointer size : ℕ) → Fits room (access i extent room pointer size)
+access-fits : (i extent room offset size : ℕ) → Fits room (access i extent room offset size)
 unfolding access
-access-fits i extent room pointer size = either (Fits room) (leb (pointer + size) extent) _ _ (logging-fits room _ _ (λ words h. nexts h)) stops
+access-fits i extent room offset size = either (Fits room) (leb (offset + size) extent) _ _ (logging-fits room _ _ (λ words h. nexts h)) stops
 
 checked-fits : (k : Kind) (op : Operation) (i extent room x : ℕ) → Fits room (checked k op i extent room x)
 unfolding checked

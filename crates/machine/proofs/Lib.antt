@@ -12,4 +12,5 @@ pub mod Limits
 pub mod Marked
 pub mod Moves
 pub mod Conditions
+pub mod Wordsizes
 pub mod Pinned

@@ -137,9 +137,9 @@ goto-public : (i : ℕ) (v : Varnode) (words : List ℕ) → NoLeak (goTo i v wo
 unfolding goTo
 goto-public i v words = either NoLeak (eqb (v .space) 1) _ _ nexts exited
 
-access-public : (i extent room pointer size : ℕ) → NoLeak (access i extent room pointer size)
+access-public : (i extent room offset size : ℕ) → NoLeak (access i extent room offset size)
 unfolding access
-access-public i extent room pointer size = either NoLeak (leb (pointer + size) extent) _ _ (logging-public room _ _ (λ words. nexts)) stop-bounds
+access-public i extent room offset size = either NoLeak (leb (offset + size) extent) _ _ (logging-public room _ _ (λ words. nexts)) stop-bounds
 
 checked-public : (k : Kind) (op : Operation) (i extent room x : ℕ) → NoLeak (checked k op i extent room x)
 unfolding checked

@@ -1,7 +1,7 @@
 -- Noninterference, first half: two low-equivalent memories have runs that cannot be told apart.
 use Prim.Native.Nat.{ℕ, zero, suc}
 use native.Mathlib.Omega.{arith}
-use mathlib.Core.Path.{_≡_, refl, sym, ap₂, _∙_}
+use mathlib.Core.Path.{_≡_, refl, sym, ap, ap₂, _∙_}
 use mathlib.Core.Bool.{Bool, true, false, not}
 use mathlib.Core.List.{List, [], _∷_}
 use borrow.Author.Tests.{eqb-true, not-false}
@@ -18,8 +18,8 @@ use Rattle.operation.specs.declared.layout.Varnode.{Varnode}
 use Rattle.operation.specs.Layout.{operationCount, absent}
 use Rattle.machine.specs.Program.{Program, bigEndian}
 use Rattle.machine.specs.Memory.{Memory, bytesAt, valueAt, ordered, digitsAt}
-use Rattle.machine.specs.Effect.{Operation, Kind, operationAt, sinks, tested, moves, dropped, digitsOf, valuesOf, computed, bytesWritten, anySecret, secret, labelsWritten}
-use Rattle.machine.specs.Run.{Decision, Position, Ended, Stepped, decided, checked, ended, testedValue, applyDecision, executeAs, execute, stepped, continued, run}
+use Rattle.machine.specs.Effect.{Operation, Kind, operationAt, sinks, tested, resolved, moves, dropped, digitsOf, valuesOf, computed, bytesWritten, anySecret, secret, labelsWritten}
+use Rattle.machine.specs.Run.{Decision, Position, Ended, Stepped, decided, checked, ended, resolvedValue, applyDecision, executeAs, execute, stepped, continued, run}
 use Rattle.machine.proofs.Pointwise.{Each, Spaces, each-length, spaces-space, spaces-at, spaces-written}
 use Rattle.machine.proofs.Cases.{either, either₂}
 
@@ -154,10 +154,10 @@ module _ (program : Program) {labels m n : Memory} (r : Spaces Public labels m n
   decided-view false k op at i extent room x y h = rw (h refl) (applied-view k op at y (checked k op i extent room y))
 
   execute-view : (k : Kind) (op : Operation) (at : Position) → SameSteps (executeAs program k op at labels m) (executeAs program k op at labels n)
-  unfolding executeAs testedValue
+  unfolding executeAs resolvedValue
   execute-view k op at =
       rw (each-length (spaces-space r (op .input0 .offset)))
-      (decided-view (secret labels (sinks k op)) k op at _ _ _ _ _ (public-tested r (program .settings) k op))
+      (decided-view (secret labels (sinks k op)) k op at _ _ _ _ _ (λ e. ap (resolved (program .settings) k op) (public-tested r (program .settings) k op e)))
 
   stepped-view : (at : Position) → SameSteps (stepped program at labels m) (stepped program at labels n)
   unfolding stepped execute

@@ -1,7 +1,7 @@
 -- The exact conditions: one operation of a well-formed list told a second time, over opcode numbers, varnodes, labels and values, a
 -- sentence for each definition. The definitions of Effect and Run must meet it; a wrong entry in one of their tables does not. Both
--- tellings share memory, arithmetic and the bytes at a pointer (`pointee`). The code is held to these: what it plans, looks at and
--- marks is told in their words.
+-- tellings share memory, arithmetic, the wordsize of a space and the bytes at a byte offset (`pointee`). The code is held to these: what
+-- it plans, looks at and marks is told in their words.
 use Prim.Native.Nat.{ℕ, suc, _+_, _*_, _-_, _%_, _^_, _<_}
 use mathlib.Core.Bool.{Bool, false, cond, not, _&&_, _||_}
 use mathlib.Core.List.{List, [], _∷_}
@@ -13,7 +13,7 @@ use Rattle.integer.specs.Operations.{flag}
 use Rattle.arithmetic.specs.Opcodes.{member}
 use Rattle.arithmetic.specs.Result.{result}
 use Rattle.operation.specs.declared.layout.Varnode.{Varnode}
-use Rattle.operation.specs.Layout.{operationCount}
+use Rattle.operation.specs.Layout.{wordsizeOf, operationCount}
 use Rattle.validation.specs.Verdict.{verdict}
 use Rattle.machine.specs.Program.{Program, bigEndian}
 use Rattle.machine.specs.Memory.{Memory, OfBytes, lengthsOf, spaceOf, bytesAt, written, valueAt}
@@ -33,13 +33,19 @@ leaks labels op =
     || (member (op .opcode) (6 ∷ 8 ∷ 9 ∷ []) && hasSecret labels (op .input0))
     || (member (op .opcode) (35 ∷ 36 ∷ 37 ∷ 38 ∷ []) && hasSecret labels (op .input1))
 
--- ---- by the value b of input1: the pointer of LOAD 2 and STORE 3, the condition of CBRANCH 5, the divisor
+-- ---- by the number b that input1 stands for: the byte offset of LOAD 2 and STORE 3, else its value
 
--- pointer + size beyond the space
+-- LOAD and STORE: the pointer times the wordsize of the space that input0 names, as a whole number; any other: the value of input1.
+unfoldable pub operand1 : Program → Memory → Operation → ℕ
+operand1 program m op =
+    let value : ℕ = valueAt (program .settings) m (op .input1) in
+    cond (member (op .opcode) (2 ∷ 3 ∷ [])) (value * wordsizeOf (program .settings .wordsizes) (op .input0 .offset)) value
+
+-- offset + size beyond the space
 unfoldable pub exceedsSpace : Memory → Varnode → Bool
 exceedsSpace m v = not (leb (v .offset + v .size) (length (spaceOf m (v .space))))
 
--- BOUNDS, pointer + size beyond the space, summed without wrapping.
+-- BOUNDS, after multiplying: byte offset + size beyond the space, summed without wrapping.
 unfoldable pub outOfBounds : Memory → Operation → (b : ℕ) → Bool
 outOfBounds m op b =
     (eqb (op .opcode) 2 && exceedsSpace m (pointee op b (op .output .size)))
@@ -93,7 +99,7 @@ becomesSecret labels op b =
     (hasSecret labels (op .input0) || hasSecret labels (op .input1)
     || (eqb (op .opcode) 2 && hasSecret labels (pointee op b (op .output .size))))
 
--- ---- the value written, by the values a of input0 and b of input1
+-- ---- the value written, by the value a of input0 and the number b that input1 stands for
 
 -- COPY's input0, or the arithmetic's number.
 unfoldable pub valueComputed : Operation → (a b : ℕ) → ℕ
@@ -112,8 +118,8 @@ valueWritten program m op a b = cond (member (op .opcode) (2 ∷ 3 ∷ [])) (val
 unfoldable pub positionAfter : Operation → (b : ℕ) → Position → (index : ℕ) → Position
 positionAfter op b at i = advanced at i (cond (writesLog op) (logWordOf op (at .index) b ∷ []) [])
 
--- After LEAK, in order, with the values a of input0 and b of input1: BOUNDS; ZERO; LOG; then it is executed, and exits or goes on. `marked`
--- is the labels if it goes on.
+-- After LEAK, in order, with the value a of input0 and the number b that input1 stands for: BOUNDS; ZERO; LOG; then it is executed, and exits
+-- or goes on. `marked` is the labels if it goes on.
 unfoldable pub exactStepWith : Program → Operation → (a b : ℕ) → Position → (labels marked memory : Memory) → Stepped
 exactStepWith program op a b at labels marked m =
     cond (outOfBounds m op b) (Stepped.halted (ended 32 0 at labels m))
@@ -131,7 +137,7 @@ labelsAfter labels op b = written labels (destinationBytes op b) (replicate (des
 unfoldable pub exactStep : Program → Operation → Position → (labels memory : Memory) → Stepped
 exactStep program op at labels m =
     let a : ℕ = valueAt (program .settings) m (op .input0) in
-    let b : ℕ = valueAt (program .settings) m (op .input1) in
+    let b : ℕ = operand1 program m op in
     cond (leaks labels op) (Stepped.halted (ended 31 0 at labels m)) (exactStepWith program op a b at labels (labelsAfter labels op b) m)
 
 -- At n, END; count equals budget, BUDGET; `budget` is what is left of it.

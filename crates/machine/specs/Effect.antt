@@ -1,5 +1,5 @@
 -- What each operation reads, writes and must find public.
-use Prim.Native.Nat.{ℕ}
+use Prim.Native.Nat.{ℕ, _*_}
 use mathlib.Core.Bool.{Bool, false, cond, _||_, not}
 use mathlib.Core.List.{List, [], _∷_, _++_}
 use lib.Dec.{eqb}
@@ -11,7 +11,7 @@ use Rattle.arithmetic.specs.Operands.{divides}
 use Rattle.arithmetic.specs.Result.{result}
 use Rattle.operation.specs.declared.layout.Settings.{Settings}
 use Rattle.operation.specs.declared.layout.Varnode.{Varnode}
-use Rattle.operation.specs.Layout.{opcodeAt, absent, varnodeAt}
+use Rattle.operation.specs.Layout.{wordsizeOf, opcodeAt, absent, varnodeAt}
 use Rattle.operation.specs.Rules.{branches, jumps}
 use Rattle.machine.specs.Program.{bigEndian}
 use Rattle.machine.specs.Memory.{Memory, bytesAt, valueAt, ordered, digitsAt}
@@ -89,37 +89,56 @@ tested piece op = absent
 tested subpiece op = absent
 tested compute op = absent
 
--- ---- what is read for the value written, and where that value goes; `pointer` is the value of LOAD's or STORE's input1
+-- ---- pointers
 
--- The bytes at a pointer, which LOAD loads or STORE stores to, in the space that input0 names.
-unfoldable pub pointee : Operation → (pointer size : ℕ) → Varnode
-pointee op pointer size = record { space = op .input0 .offset; offset = pointer; size = size }
+-- LOAD and STORE multiply the pointer by the wordsize of the space that input0 names, as a whole number: this is its byte offset.
+unfoldable pub byteOffset : Settings → Operation → (pointer : ℕ) → ℕ
+byteOffset settings op pointer = pointer * wordsizeOf (settings .wordsizes) (op .input0 .offset)
+
+-- The number that the value of the varnode tested stands for: the byte offset of a pointer, else the value.
+unfoldable pub resolved : Settings → Kind → Operation → (value : ℕ) → ℕ
+resolved settings load op value = byteOffset settings op value
+resolved settings store op value = byteOffset settings op value
+resolved settings copy op value = value
+resolved settings branch op value = value
+resolved settings cbranch op value = value
+resolved settings jump op value = value
+resolved settings piece op value = value
+resolved settings subpiece op value = value
+resolved settings divide op value = value
+resolved settings compute op value = value
+
+-- ---- what is read for the value written, and where that value goes; `offset` is the byte offset of LOAD's or STORE's pointer
+
+-- The bytes at a byte offset, which LOAD loads or STORE stores to, in the space that input0 names.
+unfoldable pub pointee : Operation → (offset size : ℕ) → Varnode
+pointee op offset size = record { space = op .input0 .offset; offset = offset; size = size }
 
 -- Least significant first: input0 of PIECE is its most significant part.
-unfoldable pub sources : Kind → Operation → (pointer : ℕ) → List Varnode
-sources copy op pointer = op .input0 ∷ []
-sources load op pointer = pointee op pointer (op .output .size) ∷ []
-sources store op pointer = op .input2 ∷ []
-sources branch op pointer = []
-sources cbranch op pointer = []
-sources jump op pointer = []
-sources piece op pointer = op .input1 ∷ op .input0 ∷ []
-sources subpiece op pointer = op .input0 ∷ []
-sources divide op pointer = op .input0 ∷ op .input1 ∷ []
-sources compute op pointer = op .input0 ∷ op .input1 ∷ []
+unfoldable pub sources : Kind → Operation → (offset : ℕ) → List Varnode
+sources copy op offset = op .input0 ∷ []
+sources load op offset = pointee op offset (op .output .size) ∷ []
+sources store op offset = op .input2 ∷ []
+sources branch op offset = []
+sources cbranch op offset = []
+sources jump op offset = []
+sources piece op offset = op .input1 ∷ op .input0 ∷ []
+sources subpiece op offset = op .input0 ∷ []
+sources divide op offset = op .input0 ∷ op .input1 ∷ []
+sources compute op offset = op .input0 ∷ op .input1 ∷ []
 
 -- Where the value goes: the output, or the bytes that STORE stores to; branches write nothing.
-unfoldable pub target : Kind → Operation → (pointer : ℕ) → Varnode
-target copy op pointer = op .output
-target load op pointer = op .output
-target store op pointer = pointee op pointer (op .input2 .size)
-target branch op pointer = absent
-target cbranch op pointer = absent
-target jump op pointer = absent
-target piece op pointer = op .output
-target subpiece op pointer = op .output
-target divide op pointer = op .output
-target compute op pointer = op .output
+unfoldable pub target : Kind → Operation → (offset : ℕ) → Varnode
+target copy op offset = op .output
+target load op offset = op .output
+target store op offset = pointee op offset (op .input2 .size)
+target branch op offset = absent
+target cbranch op offset = absent
+target jump op offset = absent
+target piece op offset = op .output
+target subpiece op offset = op .output
+target divide op offset = op .output
+target compute op offset = op .output
 
 -- ---- the bytes written
 

@@ -9,4 +9,5 @@ pub mod Order
 pub mod Limits
 pub mod Marked
 pub mod Conditions
+pub mod Wordsizes
 pub mod Pinned

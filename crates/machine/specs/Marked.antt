@@ -5,7 +5,8 @@ use mathlib.Core.List.{List, [], _∷_, _++_}
 use mathlib.Core.Path.{_≡_}
 use lib.ListN.{replicate}
 use lib.Seq.{sets}
-use Rattle.operation.specs.Layout.{wordsPerOperation}
+use Rattle.operation.specs.declared.layout.Settings.{Settings}
+use Rattle.operation.specs.Layout.{allOne, wordsPerOperation}
 use Rattle.machine.specs.Memory.{spaces}
 use Rattle.machine.specs.Calls.{plainOutcome, plainRun}
 
@@ -13,10 +14,14 @@ use Rattle.machine.specs.Calls.{plainOutcome, plainRun}
 abbrev pub words : (head output input0 input1 : ℕ) → List ℕ
 words head output input0 input1 = sets (replicate wordsPerOperation 0) 0 (head ∷ output ∷ input0 ∷ input1 ∷ [])
 
--- A run of the operation alone, address size 8, ends with END after this operation and leaves these bytes.
+-- A byte order, address size 8, wordsizes 1.
+abbrev pub settings : (order : ℕ) → Settings
+settings order = record { order = order; «address_size» = 8; wordsizes = allOne }
+
+-- A run of the operation alone, with these settings, ends with END after this operation and leaves these bytes.
 abbrev pub Gives : (order : ℕ) (operation before after : List ℕ) → Type 0
 Gives order operation before after =
-    plainRun (record { order = order; «address_size» = 8 }) operation 0 1 [] (spaces [] before [])
+    plainRun (settings order) operation 0 1 [] (spaces [] before [])
     ≡ plainOutcome (record { ending = 0; index = 1; executed = 1; logged = 0; value = 0 }) (spaces [] after []) []
 
 -- The same in both byte orders.
@@ -35,7 +40,7 @@ nineBranches =
 -- A run of it from index 5, over empty spaces, is at index 8 after one operation.
 abbrev pub Branches : (order : ℕ) → Type 0
 Branches order =
-    plainRun (record { order = order; «address_size» = 8 }) nineBranches 5 1 [] (spaces [] [] [])
+    plainRun (settings order) nineBranches 5 1 [] (spaces [] [] [])
     ≡ plainOutcome (record { ending = 2; index = 8; executed = 1; logged = 0; value = 0 }) (spaces [] [] []) []
 
 -- All of them.

@@ -10,7 +10,7 @@ use Rattle.operation.specs.Layout.{operationCount}
 use Rattle.operation.specs.Rules.{relativeTarget}
 use Rattle.machine.specs.Program.{Program}
 use Rattle.machine.specs.Memory.{Memory, spaceOf, valueAt, written}
-use Rattle.machine.specs.Effect.{Operation, operationAt, Kind, kindOf, sinks, tested, sources, target, bytesWritten, secret, labelsWritten}
+use Rattle.machine.specs.Effect.{Operation, operationAt, Kind, kindOf, sinks, tested, resolved, sources, target, bytesWritten, secret, labelsWritten}
 
 -- ---- what is decided before anything is written
 
@@ -48,13 +48,13 @@ indexOf (negsuc n) = 0
 unfoldable pub goTo : (i : ℕ) → Varnode → List ℕ → Decision
 goTo i v words = cond (eqb (v .space) 1) (next words (indexOf (relativeTarget i (v .offset)))) (exit words (v .offset))
 
--- LOAD or STORE of `size` bytes at a pointer into a space of `extent` bytes. BOUNDS: pointer + size beyond the space, summed without
+-- LOAD or STORE of `size` bytes at a byte offset of a space of `extent` bytes. BOUNDS: offset + size beyond the space, summed without
 -- wrapping.
-unfoldable pub access : (i extent room pointer size : ℕ) → Decision
-access i extent room pointer size =
-    cond (leb (pointer + size) extent) (logging room (logWord i pointer) (λ words. next words (suc i))) (stop bounds)
+unfoldable pub access : (i extent room offset size : ℕ) → Decision
+access i extent room offset size =
+    cond (leb (offset + size) extent) (logging room (logWord i offset) (λ words. next words (suc i))) (stop bounds)
 
--- BOUNDS, then ZERO divisor, then LOG, for an operation at index i; `value` is that of the varnode tested.
+-- BOUNDS, then ZERO divisor, then LOG, for an operation at index i; `value` is what the varnode tested stands for.
 unfoldable pub checked : Kind → Operation → (i extent room value : ℕ) → Decision
 checked Kind.copy op i extent room value = next [] (suc i)
 checked Kind.load op i extent room value = access i extent room value (op .output .size)
@@ -103,12 +103,12 @@ advanced at i words =
 unfoldable pub ended : (ending value : ℕ) → Position → (labels memory : Memory) → Ended
 ended e v at labels m = record { ending = e; value = v; position = at; labels = labels; memory = m }
 
--- The value of the varnode tested; 0 where nothing is.
-unfoldable pub testedValue : Program → Kind → Operation → Memory → ℕ
-testedValue program k op m = valueAt (program .settings) m (tested k op)
+-- What the varnode tested stands for; 0 where nothing is tested.
+unfoldable pub resolvedValue : Program → Kind → Operation → Memory → ℕ
+resolvedValue program k op m = resolved (program .settings) k op (valueAt (program .settings) m (tested k op))
 
 -- A stopped operation writes nothing and isn't counted; an exiting operation is counted. All is read from the memory and the labels
--- before the operation. `value` is that of the varnode tested.
+-- before the operation. `value` is what the varnode tested stands for.
 unfoldable pub applyDecision : Program → Kind → Operation → Position → (labels memory : Memory) → (value : ℕ) → Decision → Stepped
 applyDecision program k op at labels m value (stop e) = halted (ended (endingOf e) 0 at labels m)
 applyDecision program k op at labels m value (exit words d) = halted (ended 1 d (advanced at (at .index) words) labels m)
@@ -120,8 +120,8 @@ applyDecision program k op at labels m value (next words i) =
 -- One operation of a kind: what must be public is looked at first.
 unfoldable pub executeAs : Program → Kind → Operation → Position → (labels memory : Memory) → Stepped
 executeAs program k op at labels m =
-    applyDecision program k op at labels m (testedValue program k op m)
-    (decided (secret labels (sinks k op)) k op (at .index) (length (spaceOf m (op .input0 .offset))) (at .room) (testedValue program k op m))
+    applyDecision program k op at labels m (resolvedValue program k op m)
+    (decided (secret labels (sinks k op)) k op (at .index) (length (spaceOf m (op .input0 .offset))) (at .room) (resolvedValue program k op m))
 
 -- One operation.
 unfoldable pub execute : Program → Operation → Position → (labels memory : Memory) → Stepped

@@ -1,10 +1,25 @@
--- The list: how operations lie in their words.
+-- Wordsizes by space, and the list: how operations lie in their words.
 use Prim.Native.Nat.{ℕ, _+_, _*_, _/_, _%_, _^_}
+use mathlib.Core.Bool.{cond}
 use mathlib.Core.List.{List}
+use lib.Dec.{eqb}
 use lib.ListN.{length, getD}
 use Rattle.word.specs.Sum.{digit}
 use Rattle.arithmetic.specs.Opcodes.{mostInputs}
 use Rattle.operation.specs.declared.layout.Varnode.{Varnode}
+use Rattle.operation.specs.declared.layout.Wordsizes.{Wordsizes}
+
+-- One of three numbers, by the number of the space that it is for: 2 unique, 3 register, 4 ram; 0 for any other.
+abbrev pub bySpace : (space unique register ram : ℕ) → ℕ
+bySpace space unique register ram = cond (eqb space 2) unique (cond (eqb space 3) register (cond (eqb space 4) ram 0))
+
+-- Wordsize 1 for each space: pointers count bytes.
+abbrev pub allOne : Wordsizes
+allOne = record { unique = 1; register = 1; ram = 1 }
+
+-- The wordsize of a space, by its number.
+unfoldable pub wordsizeOf : Wordsizes → (space : ℕ) → ℕ
+wordsizeOf wordsizes space = bySpace space (wordsizes .unique) (wordsizes .register) (wordsizes .ram)
 
 -- Words to an operation: the head, then the offset of the output and those of the inputs.
 abbrev pub wordsPerOperation : ℕ

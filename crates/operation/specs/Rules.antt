@@ -11,7 +11,7 @@ use Rattle.arithmetic.specs.Opcodes.{lastOpcode, hasPlace, member}
 use Rattle.arithmetic.specs.Operands.{sizesAgree}
 use Rattle.operation.specs.declared.layout.Varnode.{Varnode}
 use Rattle.operation.specs.declared.layout.Lengths.{Lengths}
-use Rattle.operation.specs.Layout.{spareAt, opcodeAt, descriptorAt, offsetAt}
+use Rattle.operation.specs.Layout.{bySpace, spareAt, opcodeAt, descriptorAt, offsetAt}
 
 -- ---- 21 HEAD: opcode not 1 to 42, or a spare head byte not zero.
 
@@ -75,8 +75,7 @@ breaksPlace opcode place v =
 
 -- The length of a space, by its number; no other number is a space with bytes.
 unfoldable pub lengthOf : Lengths → (space : ℕ) → ℕ
-lengthOf lengths space =
-    cond (eqb space 2) (lengths .unique) (cond (eqb space 3) (lengths .register) (cond (eqb space 4) (lengths .ram) 0))
+lengthOf lengths space = bySpace space (lengths .unique) (lengths .register) (lengths .ram)
 
 -- offset + size beyond the space, or a constant not below 256^size. An absent varnode is nowhere, so it is not beyond anything.
 unfoldable pub beyond : Lengths → Varnode → Bool

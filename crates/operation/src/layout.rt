@@ -1,10 +1,10 @@
-// How operations lie in their words.
+// Settings and lengths of a call, and how operations lie in their words.
 ghost use mathlib.Core.Path.{_≡_};
 ghost use Prim.Native.Nat.{_+_, _*_, _<_, _≤_};
 ghost use lib.ListN.{length};
 ghost use Rattle.word.specs.Sum.{digit};
 ghost use Rattle.arithmetic.specs.Opcodes.{mostInputs};
-ghost use Rattle.operation.specs.Layout.{wordsPerOperation, operationCount, wordAt, headByte, spareAt, opcodeAt, absent, describedBy, varnodeAt};
+ghost use Rattle.operation.specs.Layout.{bySpace, wordsizeOf, wordsPerOperation, operationCount, wordAt, headByte, spareAt, opcodeAt, absent, describedBy, varnodeAt};
 use arithmetic::opcodes::MOST_INPUTS;
 
 // Words to an operation: the head, then the offset of the output and those of the inputs.
@@ -20,10 +20,18 @@ pub struct Varnode {
     pub size: u64,
 }
 
-// Byte order, 0 little or 1 big, and address size.
+// How many bytes a pointer into each space counts as one.
+pub struct Wordsizes {
+    pub unique: u64,
+    pub register: u64,
+    pub ram: u64,
+}
+
+// Byte order, 0 little or 1 big, address size and wordsizes.
 pub struct Settings {
     pub order: u64,
     pub address_size: u64,
+    pub wordsizes: Wordsizes,
 }
 
 // The lengths of the three spaces with bytes.
@@ -31,6 +39,25 @@ pub struct Lengths {
     pub unique: u64,
     pub register: u64,
     pub ram: u64,
+}
+
+// One of three numbers, by the number of the space that it is for; 0 for any other space.
+pub(crate) fn by_space(space: u64, unique: u64, register: u64, ram: u64) -> u64
+    ensures { λ r. ⌜ r ≡ bySpace space unique register ram ⌝ }
+{
+    match space {
+        2 => unique,
+        3 => register,
+        4 => ram,
+        _ => 0,
+    }
+}
+
+// The wordsize of a space, by its number.
+pub fn wordsize_of(wordsizes: Wordsizes, space: u64) -> u64
+    ensures { λ r. ⌜ r ≡ wordsizeOf wordsizes space ⌝ }
+{
+    by_space(space, wordsizes.unique, wordsizes.register, wordsizes.ram)
 }
 
 // n, the number of operations of a list; also the index of its end.

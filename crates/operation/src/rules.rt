@@ -7,6 +7,7 @@ ghost use Rattle.operation.specs.Rules.{breaksHead, accesses, branches, 
 ghost use Rattle.operation.specs.Rules.{targetOutside, breaksTarget};
 use super::layout::Lengths;
 use super::layout::Varnode;
+use super::layout::by_space;
 use super::layout::opcode_at;
 use super::layout::spare_at;
 use arithmetic::opcodes::LAST_OPCODE;
@@ -108,12 +109,7 @@ fn is_destination(v: Varnode) -> bool
 pub fn length_of(lengths: Lengths, space: u64) -> u64
     ensures { λ r. ⌜ r ≡ lengthOf lengths space ⌝ }
 {
-    match space {
-        2 => lengths.unique,
-        3 => lengths.register,
-        4 => lengths.ram,
-        _ => 0,
-    }
+    by_space(space, lengths.unique, lengths.register, lengths.ram)
 }
 
 // A varnode past its space, or a constant that its size does not hold.

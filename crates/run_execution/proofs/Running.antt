@@ -12,13 +12,13 @@ use lib.ListN.{length, take, drop, set, length-set, take-append-drop}
 use lib.Seq.{length-take-le, take-suc-set, drop-set-lt, drop-drop}
 use Rattle.word.specs.Word.{bytesOf}
 use Rattle.operation.specs.Layout.{operationCount}
-use Rattle.validation.specs.Verdict.{mostOperations, mostBytes}
+use Rattle.validation.specs.Verdict.{mostOperations, mostBytes, settingsInRange}
 use Rattle.machine.specs.Program.{Program, bigEndian}
 use Rattle.machine.specs.Memory.{Memory, OfBytes, lengthsOf, written, valueAt}
 use Rattle.machine.specs.Effect.{Operation, operationAt}
 use Rattle.machine.specs.Run.{Position, logWord, advanced, ended, stepped, continued, run}
 use Rattle.machine.specs.Calls.{Outcome, unlabelled, logAfter, outcomeOf, plainOutcome}
-use Rattle.machine.specs.Conditions.{Words}
+use Rattle.machine.specs.Conditions.{operand1, Words}
 use Rattle.machine.proofs.Kept.{written-lengths}
 use Rattle.run_memory.specs.Placed.{Placed}
 use Rattle.run_plan.specs.declared.Plan.{Plan}
@@ -103,6 +103,7 @@ ended-at log₀ log k h ending value i executed labels m = rw (log-is log₀ log
 
 -- what is left to do from here is the whole run
 pub record Going (program : Program) (budget start from : ℕ) (log₀ : List ℕ) (m₀ : Memory) (i executed k : ℕ) (log : List ℕ) (m : Memory) : Type 0 where
+  pub settings : settingsInRange (program .settings) ≡ true
   pub words : Words (program .list)
   pub valid : Valid (lengthsOf m₀) (program .list)
   pub index : i ≤ operationCount (program .list)
@@ -148,8 +149,8 @@ module _ (program : Program) (budget start from : ℕ) (log₀ : List ℕ) (m₀
     pub still : Valid (lengthsOf m) (program .list)
     still = valid-with (g .lengths) (g .valid)
 
-    pub may-plan : Valid (lengthsOf m) (program .list) × (i < operationCount (program .list))
-    may-plan = (still, before-end)
+    pub may-plan : Valid (lengthsOf m) (program .list) × (i < operationCount (program .list)) × (settingsInRange (program .settings) ≡ true)
+    may-plan = (still, before-end, g .settings)
 
     fuel : budget - executed ≡ suc (budget - (executed + 1))
     fuel = let h : executed ≤ budget = g .spent in omega arith
@@ -158,7 +159,7 @@ module _ (program : Program) (budget start from : ℕ) (log₀ : List ℕ) (m₀
     op = operationAt (program .list) i
 
     abbrev pub P : Plan
-    P = planned program m op i (valueAt (program .settings) m (op .input0)) (valueAt (program .settings) m (op .input1))
+    P = planned program m op i (valueAt (program .settings) m (op .input0)) (operand1 program m op)
 
     module _ (p : Plan) (ep : p ≡ P) where
       -- the definition's step, by the plan
@@ -211,6 +212,7 @@ module _ (program : Program) (budget start from : ℕ) (log₀ : List ℕ) (m₀
               → Going program budget start from log₀ m₀ (p .next) (executed + 1) k′ log′ m′
           unfolding applied continued position
           at-next e m′ em b = record {
+            settings = g .settings;
             words = g .words;
             valid = g .valid;
             index = rw ep (next-within program m i still before-end (g .words) (g .bytes) _ _);
@@ -227,9 +229,10 @@ module _ (program : Program) (budget start from : ℕ) (log₀ : List ℕ) (m₀
                   ∙ rw (le-ltb 1 (p .stop) go, due-room, f, ne-eqb (p .stop) 1 e, moved-on (p .next), ← em) refl
 
 -- a loop begins with the whole run before it
-pub begun : (program : Program) (budget start from : ℕ) (log : List ℕ) (m : Memory) → Words (program .list) → Valid (lengthsOf m) (program .list) → start ≤ operationCount (program .list)
-    → OfBytes m → from ≤ length log → Going program budget start from log m start 0 from log m
-begun program budget start from log m words v h b l = record {
+pub begun : (program : Program) (budget start from : ℕ) (log : List ℕ) (m : Memory) → settingsInRange (program .settings) ≡ true → Words (program .list)
+    → Valid (lengthsOf m) (program .list) → start ≤ operationCount (program .list) → OfBytes m → from ≤ length log → Going program budget start from log m start 0 from log m
+begun program budget start from log m s words v h b l = record {
+  settings = s;
   words = words;
   valid = v;
   index = h;

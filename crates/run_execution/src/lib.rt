@@ -4,7 +4,7 @@ ghost use mathlib.Core.Bool.{true, cond};
 ghost use Prim.Native.Nat.{_+_, _≤_, _<_};
 ghost use lib.ListN.{length, set};
 ghost use Rattle.operation.specs.Layout.{operationCount};
-ghost use Rattle.validation.specs.Verdict.{mostOperations, mostBytes};
+ghost use Rattle.validation.specs.Verdict.{mostOperations, mostBytes, settingsInRange};
 ghost use Rattle.machine.specs.Program.{programOf};
 ghost use Rattle.machine.specs.Memory.{spaces, lengthsOf};
 ghost use Rattle.machine.specs.Run.{logWord, run};
@@ -31,7 +31,8 @@ pub fn run_from(
     from: usize,
     budget: u64,
 ) -> Report
-    requires { ⌜ Valid (lengthsOf (spaces (now unique) (now register) (now ram))) (now list) × (start ≤ operationCount (now list)) × (from ≤ length (now log)) ⌝ }
+    requires { ⌜ Valid (lengthsOf (spaces (now unique) (now register) (now ram))) (now list) × (start ≤ operationCount (now list)) × (from ≤ length (now log))
+        × (settingsInRange settings ≡ true) ⌝ }
     ensures { λ r. ⌜ plainOutcome r (spaces (now (unique .exit)) (now (register .exit)) (now (ram .exit))) (now (log .exit))
         ≡ outcomeOf (now (log .entry)) (run (programOf settings (now (list .entry))) budget (position start from 0 (now (log .entry))) unlabelled
         (spaces (now (unique .entry)) (now (register .entry)) (now (ram .entry)))) ⌝ }

@@ -22,24 +22,24 @@ use Rattle.machine.specs.Memory.{Memory, OfBytes, lengthsOf, spaceOf, written, 
 use Rattle.machine.specs.Effect.{Operation, operationAt, pointee}
 use Rattle.machine.specs.Run.{Position, logWord, advanced, ended, continued, run}
 use Rattle.machine.specs.Calls.{Outcome, unlabelled, logAfter, outcomeOf, plainOutcome, labelledOutcome}
-use Rattle.machine.specs.Conditions.{hasSecret, leaks, exceedsSpace, outOfBounds, dividesByZero, writesLog, lowPart, exits, destinationBytes, becomesSecret, labelsAfter, valueWritten, Words}
+use Rattle.machine.specs.Conditions.{operand1, hasSecret, leaks, exceedsSpace, outOfBounds, dividesByZero, writesLog, lowPart, exits, destinationBytes, becomesSecret, labelsAfter, valueWritten, Words}
 use Rattle.machine.proofs.Conditions.{Formed, formed, few-operations, absent-written, constant-public}
 use Rattle.machine.proofs.Limits.{log-length}
 use Rattle.run_memory.specs.Placed.{Placed}
 use Rattle.run_plan.specs.declared.Plan.{Plan}
 use Rattle.run_plan.specs.Valid.{Valid}
 use Rattle.run_plan.specs.Plans.{control, lowDue, exitPlan, nextPlan, planned}
-use Rattle.run_plan.proofs.Bounds.{loaded-within, destination-placed, pointer-small}
+use Rattle.run_plan.proofs.Bounds.{loaded-within, destination-placed, offset-small}
 use Rattle.run_plan.proofs.Opcodes.{each-access, each-branch, no-access}
 use Rattle.run_plan.proofs.Places.{valid-with, space-length, movable, branching}
 use Rattle.run_plan.proofs.Steps.{wordsOf, applied, step-leak, step-applied, step-plain}
 use Rattle.run_execution.specs.Loops.{position}
 use Rattle.run_execution.proofs.Running.{ended-at, room-is, run-end}
-use Rattle.run_labelled.specs.Turns.{pointerLogged, Markable}
+use Rattle.run_labelled.specs.Turns.{offsetLogged, Markable}
 
 -- ---- what is marked
 
--- the code finds the pointer p, and by it the target
+-- the code finds the byte offset p, and by it the target
 module _ (op : Operation) (b p : ℕ) (ep : p ≡ b) (target : Varnode) (et : target ≡ destinationBytes op p) where
   target-found : target ≡ destinationBytes op b
   target-found = et ∙ ap (destinationBytes op) ep
@@ -56,10 +56,10 @@ module _ (op : Operation) (b p : ℕ) (ep : p ≡ b) (target : Varnode) (et : ta
   unfolding labelsAfter
   unmarked labels z h = sym (absent-written labels (destinationBytes op b) _ (h .nowhere (ap (λ (v : Varnode). v .space) (sym target-found) ∙ z)))
 
--- the pointer is looked at by LOAD and STORE alone
-other-pointer : (labels : Memory) (op : Operation) (b c : ℕ) → accesses (op .opcode) ≡ false → labelsAfter labels op c ≡ labelsAfter labels op b
+-- the byte offset is looked at by LOAD and STORE alone
+other-offset : (labels : Memory) (op : Operation) (b c : ℕ) → accesses (op .opcode) ≡ false → labelsAfter labels op c ≡ labelsAfter labels op b
 unfolding labelsAfter destinationBytes becomesSecret
-other-pointer labels op b c e = let n = no-access (op .opcode) e in rw (n .n2, n .n3) refl
+other-offset labels op b c e = let n = no-access (op .opcode) e in rw (n .n2, n .n3) refl
 
 other-target : (op : Operation) (b c : ℕ) → accesses (op .opcode) ≡ false → destinationBytes op c ≡ destinationBytes op b
 unfolding destinationBytes
@@ -120,7 +120,7 @@ module _ (program : Program) (i k : ℕ) (log : List ℕ) (labels m : Memory) (w
   a = valueAt (program .settings) m (op .input0)
 
   abbrev b : ℕ
-  b = valueAt (program .settings) m (op .input1)
+  b = operand1 program m op
 
   abbrev P : Plan
   P = planned program m op i a b
@@ -145,7 +145,7 @@ module _ (program : Program) (i k : ℕ) (log : List ℕ) (labels m : Memory) (w
       stays : done .executed ≡ 0 → Labelled most labels → Done most
       leaves : done .ending ≡ 1 → Labelled most labels → Done most
       goes : (done .executed ≡ 0 → ⊥) → (done .ending ≡ 1 → ⊥) → i < operationCount (program .list) → leaks labels op ≡ false → outOfBounds m op b ≡ false
-          → (accesses (op .opcode) ≡ true → (k < length log₁) × (pointerLogged op log₁ k ≡ b)) → Labelled most (labelsAfter labels op (pointerLogged op log₁ k)) → Done most
+          → (accesses (op .opcode) ≡ true → (k < length log₁) × (offsetLogged op log₁ k ≡ b)) → Labelled most (labelsAfter labels op (offsetLogged op log₁ k)) → Done most
 
     -- the same end with other labels
     relabel : (most e x : ℕ) (p : Position) (after n : Memory) → Plainly most → run program most at unlabelled m ≡ ended e x p unlabelled n
@@ -243,11 +243,11 @@ module _ (program : Program) (i k : ℕ) (log : List ℕ) (labels m : Memory) (w
                   ∙ getD-append-seam (take k log) (logWord i b) rest 0
 
           small : accesses (op .opcode) ≡ true → b < 2 ^ 32
-          small e = let h = pointer-small program m i v inside b (plan-inside program m op i a b es) e in omega arith
+          small e = let h = offset-small program m i v inside b (plan-inside program m op i a b es) e in omega arith
 
-          pointer : accesses (op .opcode) ≡ true → pointerLogged op log₁ k ≡ b
-          unfolding pointerLogged
-          pointer e = rw (e, word-at e) (low-part i b (small e))
+          offset : accesses (op .opcode) ≡ true → offsetLogged op log₁ k ≡ b
+          unfolding offsetLogged
+          offset e = rw (e, word-at e) (low-part i b (small e))
 
           longer : accesses (op .opcode) ≡ true → k < length log₁
           unfolding advanced position wordsOf
@@ -257,12 +257,12 @@ module _ (program : Program) (i k : ℕ) (log : List ℕ) (labels m : Memory) (w
               let h = room e in
               rw (w, log-length (take k log ++ (logWord i b ∷ [])) log l) h
 
-          marks : labelsAfter labels op (pointerLogged op log₁ k) ≡ labelsAfter labels op b
+          marks : labelsAfter labels op (offsetLogged op log₁ k) ≡ labelsAfter labels op b
           marks = by (accesses (op .opcode)) refl
             where
-              by : (t : Bool) → accesses (op .opcode) ≡ t → labelsAfter labels op (pointerLogged op log₁ k) ≡ labelsAfter labels op b
-              by true e = ap (labelsAfter labels op) (pointer e)
-              by false e = other-pointer labels op b (pointerLogged op log₁ k) e
+              by : (t : Bool) → accesses (op .opcode) ≡ t → labelsAfter labels op (offsetLogged op log₁ k) ≡ labelsAfter labels op b
+              by true e = ap (labelsAfter labels op) (offset e)
+              by false e = other-offset labels op b (offsetLogged op log₁ k) e
 
           went : Done 1
           unfolding advanced position
@@ -270,7 +270,7 @@ module _ (program : Program) (i k : ℕ) (log : List ℕ) (labels m : Memory) (w
               let x : done .executed ≡ 1 = executed-is 1 ending 0 after n plain went-plain in
               let e = ending-is 1 ending 0 after n plain went-plain in
               goes (λ z. omega arith) (λ z. not-one (ltb (P .next) (operationCount (program .list))) (sym e ∙ z)) inside public (plan-inside program m op i a b es)
-              (λ t. (longer t, pointer t)) (rw marks (relabel 1 ending 0 after (labelsAfter labels op b) n plain went-plain went-labelled))
+              (λ t. (longer t, offset t)) (rw marks (relabel 1 ending 0 after (labelsAfter labels op b) n plain went-plain went-labelled))
             where
               not-one : (t : Bool) → _≡_ {A = ℕ} (cond t 2 0) 1 → ⊥
               not-one true z = let q : _≡_ {A = ℕ} 2 1 = z in omega arith
@@ -292,26 +292,26 @@ module _ (program : Program) (i k : ℕ) (log : List ℕ) (labels m : Memory) (w
   -- ---- what may be marked
 
   module _ (log₁ : List ℕ) (inside : i < operationCount (program .list)) (public : leaks labels op ≡ false) (bounds : outOfBounds m op b ≡ false)
-      (logged : accesses (op .opcode) ≡ true → (k < length log₁) × (pointerLogged op log₁ k ≡ b)) where
+      (logged : accesses (op .opcode) ≡ true → (k < length log₁) × (offsetLogged op log₁ k ≡ b)) where
     valid : Valid (lengthsOf labels) (program .list)
     valid = valid-with fit v
 
     bounded : outOfBounds labels op b ≡ false
     bounded = bounds-by-lengths labels m op b fit ∙ bounds
 
-    target-is : destinationBytes op (pointerLogged op log₁ k) ≡ destinationBytes op b
+    target-is : destinationBytes op (offsetLogged op log₁ k) ≡ destinationBytes op b
     target-is = by (accesses (op .opcode)) refl
       where
-        by : (t : Bool) → accesses (op .opcode) ≡ t → destinationBytes op (pointerLogged op log₁ k) ≡ destinationBytes op b
+        by : (t : Bool) → accesses (op .opcode) ≡ t → destinationBytes op (offsetLogged op log₁ k) ≡ destinationBytes op b
         by true e = ap (destinationBytes op) (logged e .1)
-        by false e = other-target op b (pointerLogged op log₁ k) e
+        by false e = other-target op b (offsetLogged op log₁ k) e
 
     loads-access : eqb (op .opcode) 2 ≡ true → accesses (op .opcode) ≡ true
     unfolding accesses member
     loads-access e = rw e refl
 
     -- a branch writes nothing
-    writes-something : (destinationBytes op (pointerLogged op log₁ k) .space ≡ 0 → ⊥) → branches (op .opcode) ≡ false
+    writes-something : (destinationBytes op (offsetLogged op log₁ k) .space ≡ 0 → ⊥) → branches (op .opcode) ≡ false
     unfolding destinationBytes operationAt absent
     writes-something s = by (branches (op .opcode)) refl
       where

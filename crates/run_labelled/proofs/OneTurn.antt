@@ -18,7 +18,7 @@ use Rattle.machine.specs.Conditions.{leaks, labelsAfter, Words}
 use Rattle.run_plan.specs.Valid.{Valid}
 use Rattle.run_plan.proofs.Places.{valid-with}
 use Rattle.run_execution.specs.Loops.{position}
-use Rattle.run_labelled.specs.Turns.{Fitting, completes, pointerLogged, Markable}
+use Rattle.run_labelled.specs.Turns.{Fitting, completes, offsetLogged, Markable}
 use Rattle.run_labelled.proofs.Marking.{leaked, Done, done-idle, done-end, done-step, markable}
 
 -- the labels of a labelled run have room for the same list
@@ -132,7 +132,7 @@ module _ (labelled : Bool) (program : Program) (i k most : ℕ) (log : List ℕ)
           by (unlabelledTurn l) = no-went (unlabelled-stays l) t
           by (labelledTurn l d) = of-done l d
 
-      module _ (labels₁ : Memory) (eb : labels₁ ≡ cond went (labelsAfter labels op (pointerLogged op log₁ k)) labels) where
+      module _ (labels₁ : Memory) (eb : labels₁ ≡ cond went (labelsAfter labels op (offsetLogged op log₁ k)) labels) where
         unchanged : went ≡ false → labels₁ ≡ labels
         unchanged f = eb ∙ rw f refl
 
@@ -144,7 +144,7 @@ module _ (labelled : Bool) (program : Program) (i k most : ℕ) (log : List ℕ)
             of-done l (Done.leaves e h) = rw (unchanged (exited e)) h
             of-done l (Done.goes x y h p bounds logged o) =
                 let on : went ≡ true = ew ∙ moved l x y in
-                let after : labels₁ ≡ labelsAfter labels op (pointerLogged op log₁ k) = eb ∙ rw on refl in
+                let after : labels₁ ≡ labelsAfter labels op (offsetLogged op log₁ k) = eb ∙ rw on refl in
                 rw after o
 
             by : Turn → Labelled labels₁

@@ -11,6 +11,7 @@ use lib.ListN.{length}
 use Rattle.integer.proofs.Booleans.{both}
 use Rattle.operation.specs.declared.report.Report.{Report}
 use Rattle.operation.specs.Layout.{operationCount}
+use Rattle.validation.specs.Verdict.{settingsInRange}
 use Rattle.machine.specs.Program.{Program}
 use Rattle.machine.specs.Memory.{Memory, lengthsOf}
 use Rattle.machine.specs.Run.{Ended, run}
@@ -28,6 +29,7 @@ use Rattle.run_labelled.proofs.Parts.{part-ended, part-stopped, counted
 -- what is left to do from here is the whole run
 pub record Turning (labelled : Bool) (program : Program) (budget start from : ℕ) (log₀ : List ℕ) (labels₀ m₀ : Memory)
     (i executed k : ℕ) (log : List ℕ) (labels m : Memory) : Type 0 where
+  pub settings : settingsInRange (program .settings) ≡ true
   pub valid : Valid (lengthsOf m₀) (program .list)
   pub fitting : Fitting labelled labels₀ m₀
   pub index : i ≤ operationCount (program .list)
@@ -39,10 +41,11 @@ pub record Turning (labelled : Bool) (program : Program) (budget start from : �
   pub same : run program (budget - executed) (position i k executed log) labels m ≡ run program budget (position start from 0 log₀) labels₀ m₀
 
 -- the loop begins with the whole run before it
-pub begun : (labelled : Bool) (program : Program) (budget start from : ℕ) (log : List ℕ) (labels m : Memory) → Valid (lengthsOf m) (program .list)
-    → start ≤ operationCount (program .list) → from ≤ length log → Fitting labelled labels m
+pub begun : (labelled : Bool) (program : Program) (budget start from : ℕ) (log : List ℕ) (labels m : Memory) → settingsInRange (program .settings) ≡ true
+    → Valid (lengthsOf m) (program .list) → start ≤ operationCount (program .list) → from ≤ length log → Fitting labelled labels m
     → Turning labelled program budget start from log labels m start 0 from log labels m
-begun labelled program budget start from log labels m v s l f = record {
+begun labelled program budget start from log labels m r v s l f = record {
+  settings = r;
   valid = v;
   fitting = f;
   index = s;
@@ -70,6 +73,7 @@ module _ (labelled : Bool) (program : Program) (budget start from : ℕ) (log₀
   -- what a turn asks for
   pub may-turn : (most : ℕ) → most ≡ turnOf labelled budget
       → Valid (lengthsOf m) (program .list) × (i ≤ operationCount (program .list)) × (k ≤ length log) × Fitting labelled labels m × (labelled ≡ true → most ≤ 1)
+      × (settingsInRange (program .settings) ≡ true)
   may-turn most em = (
     valid-with (g .lengths) (g .valid),
     g .index,
@@ -79,6 +83,7 @@ module _ (labelled : Bool) (program : Program) (budget start from : ℕ) (log₀
       none = λ t. no-labels labels (g .marks ∙ ap lengthsOf (g .fitting .none t));
     },
     λ t. rw (em, ← g .turn) (turn-one t),
+    g .settings,
   )
 
   module _ (most : ℕ) (given : most ≡ turnOf labelled budget) (done : Report) (m′ labels′ : Memory) (log′ : List ℕ)
@@ -230,6 +235,7 @@ module _ (labelled : Bool) (program : Program) (budget start from : ℕ) (log₀
           let back = run-later executed [] program (left - most) (r .position) (r .labels) (r .memory) in
           let inside : r .position .index < operationCount (program .list) = run-index program most (position i k 0 log) labels m stopped in
           record {
+            settings = g .settings;
             valid = g .valid;
             fitting = g .fitting;
             index = rw is-index (omega arith);

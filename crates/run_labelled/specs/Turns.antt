@@ -28,15 +28,15 @@ turnOf labelled budget = cond (labelled && ltb 0 budget) 1 budget
 unfoldable pub completes : (labelled : Bool) → (executed ending : ℕ) → Bool
 completes labelled executed ending = labelled && (not (eqb executed 0) && not (eqb ending 1))
 
--- The pointer of LOAD and STORE, by the log word at k; 0 for all others.
-unfoldable pub pointerLogged : Operation → (log : List ℕ) → (k : ℕ) → ℕ
-pointerLogged op log k = cond (accesses (op .opcode)) (getD log k 0 % 2 ^ 32) 0
+-- The byte offset of LOAD and STORE, by the log word at k; 0 for all others.
+unfoldable pub offsetLogged : Operation → (log : List ℕ) → (k : ℕ) → ℕ
+offsetLogged op log k = cond (accesses (op .opcode)) (getD log k 0 % 2 ^ 32) 0
 
 -- An operation that went on, and wrote its log word, if one was due, at k. Labels are read only where something is written to.
 pub record Markable (labels : Memory) (list log : List ℕ) (i k : ℕ) : Type 0 where
   pub valid : Valid (lengthsOf labels) list
   pub index : i < operationCount list
   pub logged : accesses (opcodeAt list i) ≡ true → k < length log
-  pub placed : Placed labels (destinationBytes (operationAt list i) (pointerLogged (operationAt list i) log k))
-  pub readable : (destinationBytes (operationAt list i) (pointerLogged (operationAt list i) log k) .space ≡ 0 → ⊥)
-      → Readable labels list i (pointerLogged (operationAt list i) log k)
+  pub placed : Placed labels (destinationBytes (operationAt list i) (offsetLogged (operationAt list i) log k))
+  pub readable : (destinationBytes (operationAt list i) (offsetLogged (operationAt list i) log k) .space ≡ 0 → ⊥)
+      → Readable labels list i (offsetLogged (operationAt list i) log k)

@@ -7,6 +7,7 @@ ghost use lib.Dec.{eqb, ltb};
 ghost use lib.ListN.{length};
 ghost use Rattle.operation.specs.Layout.{wordsPerOperation, operationCount, opcodeAt};
 ghost use Rattle.operation.specs.Rules.{accesses};
+ghost use Rattle.validation.specs.Verdict.{settingsInRange};
 ghost use Rattle.machine.specs.Program.{programOf};
 ghost use Rattle.machine.specs.Memory.{spaces, lengthsOf};
 ghost use Rattle.machine.specs.Effect.{operationAt};
@@ -15,7 +16,7 @@ ghost use Rattle.machine.specs.Calls.{outcomeOf, labelledOutcome};
 ghost use Rattle.machine.specs.Conditions.{leaks, labelsAfter};
 ghost use Rattle.run_plan.specs.Valid.{Valid};
 ghost use Rattle.run_execution.specs.Loops.{position};
-ghost use Rattle.run_labelled.specs.Turns.{Fitting, turnOf, completes, pointerLogged, Markable};
+ghost use Rattle.run_labelled.specs.Turns.{Fitting, turnOf, completes, offsetLogged, Markable};
 use integer::boolean::both;
 use operation::layout::Settings;
 use operation::layout::opcode_at;
@@ -47,7 +48,8 @@ pub fn run_any(
     budget: u64,
 ) -> Report
     requires { ⌜ Valid (lengthsOf (spaces (now unique) (now register) (now ram))) (now list) × (start ≤ operationCount (now list)) × (from ≤ length (now log))
-        × Fitting labelled (spaces (now «unique_labels») (now «register_labels») (now «ram_labels»)) (spaces (now unique) (now register) (now ram)) ⌝ }
+        × Fitting labelled (spaces (now «unique_labels») (now «register_labels») (now «ram_labels»)) (spaces (now unique) (now register) (now ram))
+        × (settingsInRange settings ≡ true) ⌝ }
     ensures { λ r. ⌜ labelledOutcome r (spaces (now (unique .exit)) (now (register .exit)) (now (ram .exit)))
         (spaces (now («unique_labels» .exit)) (now («register_labels» .exit)) (now («ram_labels» .exit))) (now (log .exit))
         ≡ outcomeOf (now (log .entry)) (run (programOf settings (now (list .entry))) budget (position start from 0 (now (log .entry)))
@@ -112,7 +114,7 @@ fn step_at(
 ) -> Report
     requires { ⌜ Valid (lengthsOf (spaces (now unique) (now register) (now ram))) (now list) × (i ≤ operationCount (now list)) × (k ≤ length (now log))
         × Fitting labelled (spaces (now «unique_labels») (now «register_labels») (now «ram_labels»)) (spaces (now unique) (now register) (now ram))
-        × (labelled ≡ true → most ≤ 1) ⌝ }
+        × (labelled ≡ true → most ≤ 1) × (settingsInRange settings ≡ true) ⌝ }
     ensures { λ r. ⌜ labelledOutcome r (spaces (now (unique .exit)) (now (register .exit)) (now (ram .exit)))
         (spaces (now («unique_labels» .exit)) (now («register_labels» .exit)) (now («ram_labels» .exit))) (now (log .exit))
         ≡ outcomeOf (now (log .entry)) (run (programOf settings (now (list .entry))) most (position i k 0 (now (log .entry)))
@@ -174,7 +176,7 @@ fn completes(labelled: bool, executed: u64, ending: u64) -> bool
     both(labelled, both(executed != 0, ending != 1))
 }
 
-// The labels after operation i, if it was completed. Its log word, at k, holds the pointer of LOAD and STORE.
+// The labels after operation i, if it was completed. Its log word, at k, holds the byte offset of LOAD and STORE.
 fn mark_after(
     completed: bool,
     list: &[u64],
@@ -189,23 +191,23 @@ fn mark_after(
     ensures { λ _. ⌜ spaces (now (unique .exit)) (now (register .exit)) (now (ram .exit))
         ≡ cond completed
         (labelsAfter (spaces (now (unique .entry)) (now (register .entry)) (now (ram .entry))) (operationAt (now (list .entry)) i)
-        (pointerLogged (operationAt (now (list .entry)) i) (now (log .entry)) k))
+        (offsetLogged (operationAt (now (list .entry)) i) (now (log .entry)) k))
         (spaces (now (unique .entry)) (now (register .entry)) (now (ram .entry))) ⌝ }
 {
     if completed {
-        let pointer = pointer_at(list, log, i, k);
-        let target = target_at(list, i, pointer);
+        let offset = logged_offset(list, log, i, k);
+        let target = target_at(list, i, offset);
         if target.space != 0 {
-            let secret = becomes_secret(list, unique, register, ram, i, pointer);
+            let secret = becomes_secret(list, unique, register, ram, i, offset);
             mark(unique, register, ram, target, secret);
         }
     }
 }
 
-// The pointer of LOAD and STORE, by the log word at k; 0 for all others.
-fn pointer_at(list: &[u64], log: &[u64], i: usize, k: usize) -> u64
+// The byte offset of LOAD and STORE, by the log word at k; 0 for all others.
+fn logged_offset(list: &[u64], log: &[u64], i: usize, k: usize) -> u64
     requires { ⌜ (wordsPerOperation * i + wordsPerOperation ≤ length (now list)) × (accesses (opcodeAt (now list) i) ≡ true → k < length (now log)) ⌝ }
-    ensures { λ r. ⌜ r ≡ pointerLogged (operationAt (now (list .entry)) i) (now (log .entry)) k ⌝ }
+    ensures { λ r. ⌜ r ≡ offsetLogged (operationAt (now (list .entry)) i) (now (log .entry)) k ⌝ }
 {
     if accesses(opcode_at(list, i)) {
         return log[k] % INDEX_WEIGHT;

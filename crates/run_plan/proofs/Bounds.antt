@@ -12,7 +12,7 @@ use Rattle.integer.proofs.Booleans.{both, neither, flag-lt}
 use Rattle.arithmetic.specs.Opcodes.{member}
 use Rattle.operation.specs.declared.layout.Varnode.{Varnode}
 use Rattle.operation.specs.Layout.{operationCount, varnodeAt, absent}
-use Rattle.operation.specs.Rules.{accesses, branches, lengthOf}
+use Rattle.operation.specs.Rules.{accesses, branches}
 use Rattle.validation.specs.Verdict.{mostBytes}
 use Rattle.validation.specs.WellFormed.{WellFormed}
 use Rattle.machine.specs.Program.{Program}
@@ -26,7 +26,7 @@ use Rattle.run_memory.specs.Placed.{Placed}
 use Rattle.run_plan.specs.declared.Plan.{Plan}
 use Rattle.run_plan.specs.Valid.{Valid}
 use Rattle.run_plan.specs.Plans.{control, lowDue, exitPlan, nextPlan, planned}
-use Rattle.run_plan.proofs.Places.{space-length, placed, movable, in-range}
+use Rattle.run_plan.proofs.Places.{space-small, placed, movable}
 
 pub nowhere : (m : Memory) → Placed m absent
 unfolding absent
@@ -138,18 +138,10 @@ module _ (program : Program) (m : Memory) (i : ℕ) (v : Valid (lengthsOf m) (pr
   abbrev Small : ℕ → Type 0
   Small n = n ≤ mostBytes
 
-  space-small : (space : ℕ) → length (spaceOf m space) ≤ mostBytes
-  unfolding lengthOf
-  space-small space =
-      let r = in-range (lengthsOf m) (program .list) (v .inRange) in
-      let none : 0 ≤ mostBytes = omega arith in
-      rw (← space-length m space)
-      (either Small (eqb space 2) _ _ (r .1) (either Small (eqb space 3) _ _ (r .2) (either Small (eqb space 4) _ _ (r .3) none)))
-
-  pub pointer-small : (b : ℕ) → outOfBounds m op b ≡ false → accesses (op .opcode) ≡ true → b ≤ mostBytes
+  pub offset-small : (b : ℕ) → outOfBounds m op b ≡ false → accesses (op .opcode) ≡ true → b ≤ mostBytes
   unfolding accesses member
-  pointer-small b o k =
-      let s = space-small (op .input0 .offset) in
+  offset-small b o k =
+      let s = space-small m (program .list) (v .inRange) (op .input0 .offset) in
       when (op .opcode) 2 (λ e. let l = loaded-within m op b o (eq-eqb (op .opcode) 2 e) in omega arith) (λ n2.
       when (op .opcode) 3 (λ e. let l = stored-within m op b o (eq-eqb (op .opcode) 3 e) in omega arith) (λ n3. absurd (true≢false (sym (rw (n2, n3) at k)))))
 
@@ -161,7 +153,7 @@ module _ (program : Program) (m : Memory) (i : ℕ) (v : Valid (lengthsOf m) (pr
   unfolding lowDue lowPart writesLog
   low-due b o =
       by-cond Small (writesLog op) _ _
-      (λ k. by-cond Small (eqb (op .opcode) 5) _ _ (λ c. omega (arith, flag-lt (taken op b))) (λ n5. pointer-small b o (logs-access (op .opcode) n5 k)))
+      (λ k. by-cond Small (eqb (op .opcode) 5) _ _ (λ c. omega (arith, flag-lt (taken op b))) (λ n5. offset-small b o (logs-access (op .opcode) n5 k)))
       (λ k. omega arith)
 
   pub low-small : (a b : ℕ) → Low (planned program m op i a b)

@@ -8,25 +8,25 @@ use native.Mathlib.Omega.{arith}
 use borrow.Author.Tests.{leb-true, not-false}
 use lib.Dec.{eqb, leb}
 use lib.ListN.{length}
-use Rattle.word.specs.Word.{Bytes}
-use Rattle.integer.proofs.Booleans.{both}
+use Rattle.word.specs.Word.{isSize, Bytes}
+use Rattle.integer.proofs.Booleans.{both, one-to-eight}
 use Rattle.arithmetic.specs.Opcodes.{mostInputs, opcodes, rowOf, outputs, hasPlace, member}
 use Rattle.arithmetic.specs.Operands.{sizesAgree}
 use Rattle.operation.specs.declared.layout.Settings.{Settings}
 use Rattle.operation.specs.declared.layout.Lengths.{Lengths}
-use Rattle.operation.specs.Layout.{wordsPerOperation, operationCount, opcodeAt, varnodeAt, absent}
+use Rattle.operation.specs.Layout.{wordsizeOf, wordsPerOperation, operationCount, opcodeAt, varnodeAt, absent}
 use Rattle.operation.specs.Rules.{accesses, branches, namesSpace, breaksPlace, lengthOf, breaksSize}
 use Rattle.arithmetic.proofs.Table.{data-shape}
-use Rattle.validation.specs.Verdict.{mostOperations, mostBytes, lengthsInRange}
+use Rattle.validation.specs.Verdict.{mostOperations, mostBytes, wordsizesInRange, settingsInRange, lengthsInRange}
 use Rattle.validation.specs.WellFormed.{WellFormed}
 use Rattle.machine.specs.Memory.{Memory, OfBytes, spaces, lengthsOf, spaceOf, valueAt}
 use Rattle.machine.specs.Effect.{operationAt}
 use Rattle.machine.specs.Conditions.{Words}
-use Rattle.machine.proofs.Conditions.{Destination, Formed, formed}
+use Rattle.machine.proofs.Conditions.{Destination, Formed, formed, each-space}
 use Rattle.machine.proofs.Cases.{either}
 use Rattle.run_memory.specs.Placed.{Placed}
 use Rattle.run_plan.specs.Valid.{Valid}
-use Rattle.run_plan.specs.Plans.{Movable, Branching, Computable}
+use Rattle.run_plan.specs.Plans.{Movable, Addressable, Branching, Computable}
 use Rattle.run_plan.proofs.Opcodes.{each-branch, access-no-branch, late}
 
 -- a list is valid by the lengths of the spaces alone
@@ -128,7 +128,18 @@ module _ (m : Memory) (addressSize : ℕ) (list : List ℕ) (i : ℕ) (w : WellF
       by (Destination.inList s f l) = rw (s, f) refl
       by (Destination.inRam s f) = rw (s, f) refl
 
--- ---- lengths and indices
+-- ---- settings, lengths and indices
+
+-- the wordsize of a space with bytes
+wordsize-in-range : (settings : Settings) → settingsInRange settings ≡ true → (space : ℕ) → 2 ≤ space → space ≤ 4
+    → isSize (wordsizeOf (settings .wordsizes) space) ≡ true
+unfolding settingsInRange wordsizesInRange wordsizeOf
+wordsize-in-range settings e space low high =
+    let w = settings .wordsizes in
+    let all = both (leb (settings .order) 1 && isSize (settings .«address_size»)) (isSize (w .unique) && isSize (w .register) && isSize (w .ram)) e .1 in
+    let two = both (isSize (w .unique) && isSize (w .register)) (isSize (w .ram)) all in
+    let one = both (isSize (w .unique)) (isSize (w .register)) (two .0) in
+    each-space (λ n. isSize (wordsizeOf w n) ≡ true) (one .0) (one .1) (two .1) space low high
 
 pub in-range : (lengths : Lengths) (list : List ℕ) → lengthsInRange lengths list ≡ true
     → (operationCount list ≤ mostOperations) × (lengths .unique ≤ mostBytes) × (lengths .register ≤ mostBytes) × (lengths .ram ≤ mostBytes)
@@ -142,6 +153,26 @@ in-range lengths list e =
     let b = both (whole && few && u) r (a .0) in
     let c = both (whole && few) u (b .0) in
     (leb-true _ _ (both whole few (c .0) .1), leb-true _ _ (c .1), leb-true _ _ (b .1), leb-true _ _ (a .1))
+
+pub space-small : (m : Memory) (list : List ℕ) → lengthsInRange (lengthsOf m) list ≡ true → (space : ℕ) → length (spaceOf m space) ≤ mostBytes
+unfolding lengthOf
+space-small m list e space =
+    let r = in-range (lengthsOf m) list e in
+    let none : 0 ≤ mostBytes = omega arith in
+    rw (← space-length m space)
+    (either Small (eqb space 2) _ _ (r .1) (either Small (eqb space 3) _ _ (r .2) (either Small (eqb space 4) _ _ (r .3) none)))
+  where
+    Small : ℕ → Type 0
+    Small n = n ≤ mostBytes
+
+-- LOAD and STORE at a pointer
+pub addressable : (settings : Settings) (m : Memory) (list : List ℕ) (i : ℕ) → settingsInRange settings ≡ true → lengthsInRange (lengthsOf m) list ≡ true
+    → Movable m (operationAt list i) → Addressable settings m (operationAt list i)
+unfolding operationAt
+addressable settings m list i s l h = record {
+  wordsize = one-to-eight _ (wordsize-in-range settings s (varnodeAt list i 1 .offset) (h .space .0) (h .space .1));
+  extent = space-small m list l (varnodeAt list i 1 .offset);
+}
 
 module _ (lengths : Lengths) (list : List ℕ) (v : Valid lengths list) (i : ℕ) (h : i < operationCount list) where
   pub in-words : wordsPerOperation * i + wordsPerOperation ≤ length list

@@ -16,14 +16,15 @@ use Rattle.operation.specs.Rules.{accesses, jumps, lengthOf}
 use Rattle.machine.specs.Program.{Program}
 use Rattle.machine.specs.Memory.{Memory, lengthsOf, spaceOf, valueAt}
 use Rattle.operation.specs.Layout.{absent}
-use Rattle.machine.specs.Effect.{Operation, pointee}
+use Rattle.machine.specs.Effect.{Operation, byteOffset, pointee}
 use Rattle.machine.specs.Conditions.{exceedsSpace, outOfBounds, dividesByZero, writesLog, taken, lowPart, branchTaken, exits, destination, nextIndex, destinationBytes}
-use Rattle.machine.specs.Conditions.{valueComputed, valueMoved, valueWritten}
+use Rattle.machine.specs.Conditions.{operand1, valueComputed, valueMoved, valueWritten}
+use Rattle.machine.proofs.Wordsizes.{operand-access, operand-other}
 use Rattle.run_memory.specs.Placed.{Placed}
 use Rattle.run_plan.specs.declared.Plan.{Plan}
 use Rattle.run_plan.specs.Plans.{control, stopPlan, lowDue, exitPlan, nextPlan, planned, movePlan, branchPlan, dataPlan, Movable, Branching, Computable}
 use Rattle.run_plan.proofs.Places.{space-length}
-use Rattle.run_plan.proofs.Opcodes.{divides-member, by-access, by-jump, by-branch, no-access, no-branch, no-jump, late-no-jump, late}
+use Rattle.run_plan.proofs.Opcodes.{divides-member, each-branch, by-access, by-jump, by-branch, no-access, no-branch, no-jump, late-no-jump, late}
 
 -- ---- BRANCH, CALL and CBRANCH
 
@@ -119,17 +120,36 @@ module _ (program : Program) (m : Memory) (i a b : ℕ) where
   Branched op = branchPlan op i b ≡ planned program m op i a b
 
   module _ (op : Operation) where
-    pub plans-move : Movable m op → Moved op
+    plans-move : Movable m op → Moved op
     unfolding movePlan planned dividesByZero exits branchTaken taken valueWritten member
     plans-move h = by-access Moved op (h .opcode) refl refl
 
-    pub plans-branch : Branching op → Branched op
+    plans-branch : Branching op → Branched op
     unfolding branchPlan planned outOfBounds dividesByZero exitPlan destination valueWritten valueComputed result integerResults lookup member
     plans-branch h = by-branch Branched op (h .opcode) (h .noOutput) refl refl refl
 
-    pub plans-data : accesses (op .opcode) ≡ false → dataPlan op i a b ≡ planned program m op i a b
+    plans-data : accesses (op .opcode) ≡ false → dataPlan op i a b ≡ planned program m op i a b
     unfolding dataPlan planned outOfBounds valueWritten member
     plans-data h = let na = no-access (op .opcode) h in rw (na .n2, na .n3) refl
+
+-- by the value b of input1
+module _ (program : Program) (m : Memory) (i a b : ℕ) (op : Operation) (e : b ≡ valueAt (program .settings) m (op .input1)) where
+  abbrev Plans : Plan → Type 0
+  Plans p = p ≡ planned program m op i a (operand1 program m op)
+
+  pub planned-access : Movable m op → Plans (movePlan program m op i (byteOffset (program .settings) op b))
+  planned-access h =
+      plans-move program m i a _ op h ∙ ap (planned program m op i a) (rw e (sym (operand-access program m op (h .opcode))))
+
+  planned-value : accesses (op .opcode) ≡ false → Plans (planned program m op i a b)
+  planned-value f = ap (planned program m op i a) (e ∙ sym (operand-other program m op f))
+
+  pub planned-branch : Branching op → Plans (branchPlan op i b)
+  unfolding accesses member
+  planned-branch h = plans-branch program m i a b op h ∙ planned-value (each-branch (λ k. accesses k ≡ false) refl refl refl (op .opcode) (h .opcode))
+
+  pub planned-data : accesses (op .opcode) ≡ false → Plans (dataPlan op i a b)
+  planned-data f = plans-data program m i a b op f ∙ planned-value f
 
 -- ---- as the code finds it: n is the opcode, and v0, v1, out are varnodes, that it decoded
 

@@ -15,7 +15,7 @@ use Rattle.machine.specs.Effect.{Operation, operationAt}
 use Rattle.machine.specs.Run.{Position, Stepped, logWord, advanced, ended, stepped}
 use Rattle.machine.specs.Calls.{unlabelled}
 use Rattle.machine.specs.Conditions.{hasSecret, leaks, outOfBounds, dividesByZero, writesLog, logWordOf, exits, destination, nextIndex, destinationBytes, valueWritten}
-use Rattle.machine.specs.Conditions.{positionAfter, exactStepWith, labelsAfter, exactStep, Words}
+use Rattle.machine.specs.Conditions.{operand1, positionAfter, exactStepWith, labelsAfter, exactStep, Words}
 use Rattle.machine.proofs.Plain.{nothing-secret, nothing-written}
 use Rattle.machine.proofs.Conditions.{formed, few-operations, meets, one-secret}
 use Rattle.run_plan.specs.declared.Plan.{Plan}
@@ -96,7 +96,7 @@ module _ (program : Program) (at : Position) (labels m : Memory) (words : Words 
   a = valueAt (program .settings) m (op .input0)
 
   abbrev pub b : ℕ
-  b = valueAt (program .settings) m (op .input1)
+  b = operand1 program m op
 
   step-exactStep : stepped program at labels m ≡ exactStep program op at labels m
   unfolding stepped
@@ -122,6 +122,6 @@ module _ (program : Program) (at : Position) (m : Memory) (words : Words (progra
     (v : Valid (lengthsOf m) (program .list)) (within : at .index < operationCount (program .list)) where
   pub step-plain : (let op = operationAt (program .list) (at .index) in
       stepped program at unlabelled m
-      ≡ applied program (planned program m op (at .index) (valueAt (program .settings) m (op .input0)) (valueAt (program .settings) m (op .input1))) at unlabelled unlabelled m)
+      ≡ applied program (planned program m op (at .index) (valueAt (program .settings) m (op .input0)) (operand1 program m op)) at unlabelled unlabelled m)
   unfolding labelsAfter
   step-plain = step-applied program at unlabelled m words bytes v within (no-leak _) ∙ rw nothing-written refl

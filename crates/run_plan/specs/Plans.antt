@@ -1,14 +1,17 @@
 -- What the code plans for an operation before anything is written, in the words of the machine's exact conditions; a is the value of
--- input0 and b that of input1.
+-- input0 and b the number that input1 stands for.
 use Prim.Native.Nat.{ℕ, _≤_, _<_}
 use mathlib.Core.Path.{_≡_}
 use mathlib.Core.Bool.{Bool, true, false, cond, not}
 use lib.Dec.{eqb}
+use lib.ListN.{length}
 use Rattle.arithmetic.specs.Operands.{divides, Operands}
+use Rattle.operation.specs.declared.layout.Settings.{Settings}
 use Rattle.operation.specs.Rules.{accesses, branches, jumps}
+use Rattle.validation.specs.Verdict.{mostBytes}
 use Rattle.machine.specs.Program.{Program}
-use Rattle.machine.specs.Memory.{Memory}
-use Rattle.operation.specs.Layout.{absent}
+use Rattle.machine.specs.Memory.{Memory, spaceOf}
+use Rattle.operation.specs.Layout.{wordsizeOf, absent}
 use Rattle.machine.specs.Effect.{Operation}
 use Rattle.machine.specs.Conditions.{outOfBounds, dividesByZero, writesLog, lowPart, exits, destination, nextIndex, destinationBytes, valueComputed, valueMoved, valueWritten}
 use Rattle.run_memory.specs.Placed.{Placed}
@@ -65,6 +68,11 @@ pub record Movable (m : Memory) (op : Operation) : Type 0 where
   pub space : (2 ≤ op .input0 .offset) × (op .input0 .offset ≤ 4)
   pub loaded : op .output .size ≤ 8
   pub stored : Placed m (op .input2)
+
+-- The space that LOAD and STORE name has a wordsize of 1 to 8 and at most 65,536 bytes: so a pointer that is not past it can be multiplied.
+pub record Addressable (settings : Settings) (m : Memory) (op : Operation) : Type 0 where
+  pub wordsize : (1 ≤ wordsizeOf (settings .wordsizes) (op .input0 .offset)) × (wordsizeOf (settings .wordsizes) (op .input0 .offset) ≤ 8)
+  pub extent : length (spaceOf m (op .input0 .offset)) ≤ mostBytes
 
 -- A branch goes to space 1 or 4, and has no output.
 pub record Branching (op : Operation) : Type 0 where

@@ -1,4 +1,4 @@
--- What the loops need of a list: the verdict on it is 0, for spaces of these lengths.
+-- What the loops need of a list, beside settings in range: the verdict on it is 0, for spaces of these lengths.
 use Prim.Native.Nat.{ℕ, _<_}
 use mathlib.Core.Bool.{true}
 use mathlib.Core.List.{List}

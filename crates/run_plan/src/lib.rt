@@ -1,16 +1,17 @@
 // What an operation is to do, from shared slices and numbers alone: opcode dispatch, BOUNDS and ZERO.
 ghost use mathlib.Core.Path.{_≡_};
 ghost use Prim.Native.Nat.{_+_, _*_, _≤_, _<_};
-ghost use mathlib.Core.Bool.{cond};
-ghost use lib.Dec.{eqb};
+ghost use mathlib.Core.Bool.{true, cond};
+ghost use lib.Dec.{eqb, leb};
 ghost use lib.ListN.{length};
 ghost use Rattle.operation.specs.Layout.{wordsPerOperation, operationCount};
 ghost use Rattle.operation.specs.Rules.{accesses, branches};
-ghost use Rattle.validation.specs.Verdict.{mostOperations};
+ghost use Rattle.validation.specs.Verdict.{mostOperations, mostBytes, settingsInRange};
 ghost use Rattle.machine.specs.Program.{programOf};
 ghost use Rattle.machine.specs.Memory.{spaces, lengthsOf, valueAt};
-ghost use Rattle.machine.specs.Effect.{operationAt};
-ghost use Rattle.run_plan.specs.Plans.{control, movePlan, branchPlan, dataPlan, planned, Movable, Branching, Computable};
+ghost use Rattle.machine.specs.Effect.{operationAt, byteOffset};
+ghost use Rattle.machine.specs.Conditions.{operand1};
+ghost use Rattle.run_plan.specs.Plans.{control, movePlan, branchPlan, dataPlan, planned, Movable, Addressable, Branching, Computable};
 ghost use Rattle.run_plan.specs.Valid.{Valid};
 use arithmetic::opcodes::FIRST_INTEGER;
 use arithmetic::operands::is_division;
@@ -22,6 +23,7 @@ use operation::layout::Varnode;
 use operation::layout::absent;
 use operation::layout::opcode_at;
 use operation::layout::varnode_at;
+use operation::layout::wordsize_of;
 use operation::rules::accesses;
 use operation::rules::branches;
 use operation::rules::jumps;
@@ -31,7 +33,6 @@ use run_memory::varnode::read_input0;
 use run_memory::varnode::read_input1;
 use run_memory::varnode::read_moved;
 use std::num::wrapping_add_u64;
-use word::size::within;
 
 // stop: 0 goes on at `next`, 1 EXIT with `value`, 32 BOUNDS, 33 ZERO. due: a log word with this low part is to be written. The target,
 // which may be absent, gets the value.
@@ -122,7 +123,19 @@ fn choose(first: bool, a: Varnode, b: Varnode) -> Varnode
     if first { a } else { b }
 }
 
-// LOAD and STORE at a pointer: one read and one write, from or to the bytes there.
+// The `size` bytes at a pointer lie within a space of `length` bytes. A pointer past the space is not multiplied: its byte offset is past
+// it too.
+fn reaches(pointer: u64, wordsize: u64, size: u64, length: u64) -> bool
+    requires { ⌜ (1 ≤ wordsize) × (wordsize ≤ 8) × (length ≤ mostBytes) × (size ≤ 8) ⌝ }
+    ensures { λ r. ⌜ r ≡ leb (pointer * wordsize + size) length ⌝ }
+{
+    if length < pointer {
+        return false;
+    }
+    pointer * wordsize + size <= length
+}
+
+// LOAD and STORE at a pointer: one read and one write, from or to the bytes at its byte offset.
 fn move_at<'a>(
     settings: Settings,
     list: &[u64],
@@ -133,8 +146,10 @@ fn move_at<'a>(
     pointer: u64,
 ) -> Plan
     requires { ⌜ (wordsPerOperation * i + wordsPerOperation ≤ length (now list)) × (i < mostOperations)
-        × Movable (spaces (now unique) (now register) (now ram)) (operationAt (now list) i) ⌝ }
-    ensures { λ r. ⌜ r ≡ movePlan (programOf settings (now (list .entry))) (spaces (now (unique .entry)) (now (register .entry)) (now (ram .entry))) (operationAt (now (list .entry)) i) i pointer ⌝ }
+        × Movable (spaces (now unique) (now register) (now ram)) (operationAt (now list) i)
+        × Addressable settings (spaces (now unique) (now register) (now ram)) (operationAt (now list) i) ⌝ }
+    ensures { λ r. ⌜ r ≡ movePlan (programOf settings (now (list .entry))) (spaces (now (unique .entry)) (now (register .entry)) (now (ram .entry)))
+        (operationAt (now (list .entry)) i) i (byteOffset settings (operationAt (now (list .entry)) i) pointer) ⌝ }
 {
     let loads = opcode_at(list, i) == 2;
     let output = varnode_at(list, i, 0);
@@ -142,19 +157,21 @@ fn move_at<'a>(
     let input2 = varnode_at(list, i, 3);
     let moved = choose(loads, output, input2);
     let space = input0.offset;
-    let pointee = Varnode {
-        space: space,
-        offset: pointer,
-        size: moved.size,
-    };
+    let wordsize = wordsize_of(settings.wordsizes, space);
     let lengths = lengths_of(unique, register, ram);
-    if !within(pointer, moved.size, length_of(lengths, space)) {
+    if !reaches(pointer, wordsize, moved.size, length_of(lengths, space)) {
         return control(32, i, false, 0, 0);
     }
+    let offset = pointer * wordsize;
+    let pointee = Varnode {
+        space: space,
+        offset: offset,
+        size: moved.size,
+    };
     let from = choose(loads, pointee, input2);
     let x = read_moved(settings, unique, register, ram, from);
     let to = choose(loads, output, pointee);
-    writes(i, true, pointer, to, x)
+    writes(i, true, offset, to, x)
 }
 
 // The plan of operation i. Input1 is read for every operation: it is the pointer, the condition or the second operand, and 0 if absent.
@@ -166,11 +183,12 @@ pub fn plan_at<'a>(
     ram: &'a [u8],
     i: usize,
 ) -> Plan
-    requires { ⌜ Valid (lengthsOf (spaces (now unique) (now register) (now ram))) (now list) × (i < operationCount (now list)) ⌝ }
+    requires { ⌜ Valid (lengthsOf (spaces (now unique) (now register) (now ram))) (now list) × (i < operationCount (now list))
+        × (settingsInRange settings ≡ true) ⌝ }
     ensures { λ r. ⌜ r ≡ planned (programOf settings (now (list .entry))) (spaces (now (unique .entry)) (now (register .entry)) (now (ram .entry)))
         (operationAt (now (list .entry)) i) i
         (valueAt settings (spaces (now (unique .entry)) (now (register .entry)) (now (ram .entry))) (operationAt (now (list .entry)) i .input0))
-        (valueAt settings (spaces (now (unique .entry)) (now (register .entry)) (now (ram .entry))) (operationAt (now (list .entry)) i .input1)) ⌝ }
+        (operand1 (programOf settings (now (list .entry))) (spaces (now (unique .entry)) (now (register .entry)) (now (ram .entry))) (operationAt (now (list .entry)) i)) ⌝ }
 {
     let opcode = opcode_at(list, i);
     let input1 = varnode_at(list, i, 2);

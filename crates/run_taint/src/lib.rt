@@ -57,27 +57,27 @@ fn sink_at(list: &[u64], i: usize) -> Varnode
     absent()
 }
 
-// The bytes at a pointer, in the space that input0 names.
-fn pointee_at(list: &[u64], i: usize, pointer: u64, size: u64) -> Varnode
+// The bytes at a byte offset, in the space that input0 names.
+fn pointee_at(list: &[u64], i: usize, offset: u64, size: u64) -> Varnode
     requires { ⌜ wordsPerOperation * i + wordsPerOperation ≤ length (now list) ⌝ }
-    ensures { λ r. ⌜ r ≡ pointee (operationAt (now (list .entry)) i) pointer size ⌝ }
+    ensures { λ r. ⌜ r ≡ pointee (operationAt (now (list .entry)) i) offset size ⌝ }
 {
     let input0 = varnode_at(list, i, 1);
     Varnode {
         space: input0.offset,
-        offset: pointer,
+        offset: offset,
         size: size,
     }
 }
 
 // What operation i writes to; an absent varnode for branches.
-pub fn target_at(list: &[u64], i: usize, pointer: u64) -> Varnode
+pub fn target_at(list: &[u64], i: usize, offset: u64) -> Varnode
     requires { ⌜ wordsPerOperation * i + wordsPerOperation ≤ length (now list) ⌝ }
-    ensures { λ r. ⌜ r ≡ destinationBytes (operationAt (now (list .entry)) i) pointer ⌝ }
+    ensures { λ r. ⌜ r ≡ destinationBytes (operationAt (now (list .entry)) i) offset ⌝ }
 {
     if opcode_at(list, i) == 3 {
         let input2 = varnode_at(list, i, 3);
-        return pointee_at(list, i, pointer, input2.size);
+        return pointee_at(list, i, offset, input2.size);
     }
     varnode_at(list, i, 0)
 }
@@ -90,10 +90,10 @@ pub fn becomes_secret<'a>(
     register: &'a [u8],
     ram: &'a [u8],
     i: usize,
-    pointer: u64,
+    offset: u64,
 ) -> bool
-    requires { ⌜ Readable (spaces (now unique) (now register) (now ram)) (now list) i pointer ⌝ }
-    ensures { λ r. ⌜ r ≡ becomesSecret (spaces (now (unique .entry)) (now (register .entry)) (now (ram .entry))) (operationAt (now (list .entry)) i) pointer ⌝ }
+    requires { ⌜ Readable (spaces (now unique) (now register) (now ram)) (now list) i offset ⌝ }
+    ensures { λ r. ⌜ r ≡ becomesSecret (spaces (now (unique .entry)) (now (register .entry)) (now (ram .entry))) (operationAt (now (list .entry)) i) offset ⌝ }
 {
     let opcode = opcode_at(list, i);
     if FIRST_INTEGER <= opcode {
@@ -112,7 +112,7 @@ pub fn becomes_secret<'a>(
             unique,
             register,
             ram,
-            pointee_at(list, i, pointer, output.size),
+            pointee_at(list, i, offset, output.size),
         );
     }
     let first = has_secret(unique, register, ram, varnode_at(list, i, 1));

@@ -34,7 +34,7 @@ not-refused false n i rest h e = (refl, e)
 -- where nothing is refused, the loops may run, and no label calls for 11 or 12
 pub accepted : (settings : Settings) (lengths : Lengths) (list : List ℕ) (start : ℕ) (fitting valid : Bool) (found : Report)
     → found ≡ refusal settings lengths list start fitting valid → found .ending ≡ 0
-    → Valid lengths list × (start ≤ operationCount list) × (fitting ≡ true) × (valid ≡ true)
+    → Valid lengths list × (start ≤ operationCount list) × (fitting ≡ true) × (valid ≡ true) × (settingsInRange settings ≡ true)
 unfolding refusal verdict refusalReport
 accepted settings lengths list start fitting valid found f e =
     let t1 = not-refused (not (settingsInRange settings)) 10 0 _ (λ h. omega arith) (rw f at e) in
@@ -48,6 +48,7 @@ accepted settings lengths list start fitting valid found f e =
       ltb-false (operationCount list) start (t5 .0),
       l .1,
       not-false valid (t3 .0),
+      not-false _ (t1 .0),
     )
   where
     first : Malformed

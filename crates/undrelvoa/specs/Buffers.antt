@@ -14,7 +14,12 @@ reportWords r = r .ending ∷ r .index ∷ r .executed ∷ r .logged ∷ r .valu
 
 -- The settings in the words of a call.
 unfoldable pub settingsIn : List ℕ → Settings
-settingsIn ws = record { order = getD ws 0 0; «address_size» = getD ws 1 0 }
+settingsIn ws =
+    record {
+      order = getD ws 0 0;
+      «address_size» = getD ws 1 0;
+      wordsizes = record { unique = getD ws 2 0; register = getD ws 3 0; ram = getD ws 4 0 };
+    }
 
 -- The buffers lent to a run.
 pub record Buffers : Type 0 where

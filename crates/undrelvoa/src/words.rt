@@ -11,6 +11,7 @@ ghost use Rattle.undrelvoa_faults.specs.Faults.{settingsLength, placeLength};
 ghost use Rattle.undrelvoa.specs.Buffers.{reportWords, settingsIn};
 use integer::boolean::pick;
 use operation::layout::Settings;
+use operation::layout::Wordsizes;
 use operation::report::Report;
 
 // The settings in their words.
@@ -21,6 +22,11 @@ pub(crate) fn settings_in(words: &[u64]) -> Settings
     Settings {
         order: words[0],
         address_size: words[1],
+        wordsizes: Wordsizes {
+            unique: words[2],
+            register: words[3],
+            ram: words[4],
+        },
     }
 }
 

@@ -8,13 +8,9 @@ use lib.Dec.{eqb, leb, ltb}
 use Rattle.word.specs.Word.{isSize}
 use Rattle.arithmetic.specs.Opcodes.{firstInteger, lastInteger, hasPlace}
 use Rattle.arithmetic.specs.Operands.{divides, sizesAgree, Operands}
-use Rattle.integer.proofs.Booleans.{both, passed}
+use Rattle.integer.proofs.Booleans.{both, passed, one-to-eight}
 use Rattle.operation.specs.Numbers.{reportNumbers}
 use Rattle.undrelvoa_faults.specs.Faults.{noAddress, sizesPresent, valueFault, gatherFault, scatterFault, settingsLength, lengthFault, placeLength, placeFault}
-
-one-to-eight : (n : ℕ) → isSize n ≡ true → (1 ≤ n) × (n ≤ 8)
-unfolding isSize
-one-to-eight n t = let e = both (leb 1 n) (leb n 8) t in (leb-true 1 n (e .0), leb-true n 8 (e .1))
 
 at-most-8 : (t : Bool) (n : ℕ) → cond t (isSize n) (eqb n 0) ≡ true → n ≤ 8
 at-most-8 true n e = one-to-eight n e .1

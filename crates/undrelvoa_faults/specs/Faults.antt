@@ -40,9 +40,9 @@ scatterFault order length offset size value =
     (cond (not (isSize size)) 22
     (cond (not (leb (offset + size) length && ltb value (256 ^ size))) 24 0))
 
--- The number of words of the settings: byte order, address size.
+-- The number of words of the settings: byte order, address size, wordsizes of unique, register and ram.
 abbrev pub settingsLength : ℕ
-settingsLength = 2
+settingsLength = 5
 
 -- undrelvoa_validate, the runs and the steps. All else that can be wrong is an ending of the report.
 unfoldable pub lengthFault : (settings report : ℕ) → ℕ

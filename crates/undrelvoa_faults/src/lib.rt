@@ -17,8 +17,8 @@ use word::size::within;
 // No integer operation looks at the address size.
 const NO_ADDRESS: u64 = 0;
 
-// Words of the settings: byte order, address size.
-const SETTINGS_WORDS: usize = 2;
+// Words of the settings: byte order, address size, wordsizes of unique, register and ram.
+const SETTINGS_WORDS: usize = 5;
 
 // Words of a place: space, offset, number of bytes.
 const PLACE_WORDS: usize = 3;

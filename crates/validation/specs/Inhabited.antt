@@ -6,7 +6,7 @@ use mathlib.Core.Path.{_≡_}
 use lib.ListN.{replicate}
 use lib.Seq.{sets}
 use Rattle.arithmetic.specs.Opcodes.{lastOpcode, hasPlace, member}
-use Rattle.operation.specs.Layout.{wordsPerOperation}
+use Rattle.operation.specs.Layout.{allOne, wordsPerOperation}
 use Rattle.operation.specs.Rules.{accesses}
 use Rattle.validation.specs.Verdict.{verdict}
 
@@ -25,7 +25,7 @@ example opcode =
     ((opcode + partOfHead opcode 0 (outputDescriptor opcode) + partOfHead opcode 1 0x11 + partOfHead opcode 2 0x11 + partOfHead opcode 3 0x11)
     ∷ 0 ∷ cond (accesses opcode) 3 0 ∷ [])
 
--- The verdict on it alone is 0, with address size 1 and a register space of two bytes.
+-- The verdict on it alone is 0, with address size 1, wordsizes 1 and a register space of two bytes.
 abbrev pub Inhabited : Type 0
 Inhabited = (opcode : ℕ) → 1 ≤ opcode → opcode ≤ lastOpcode
-    → verdict (record { order = 0; «address_size» = 1 }) (record { unique = 0; register = 2; ram = 0 }) (example opcode) .ending ≡ 0
+    → verdict (record { order = 0; «address_size» = 1; wordsizes = allOne }) (record { unique = 0; register = 2; ram = 0 }) (example opcode) .ending ≡ 0

@@ -6,6 +6,7 @@ use lib.Dec.{eqb, leb}
 use lib.ListN.{length}
 use Rattle.word.specs.Word.{isSize}
 use Rattle.arithmetic.specs.Opcodes.{mostInputs}
+use Rattle.operation.specs.declared.layout.Wordsizes.{Wordsizes}
 use Rattle.operation.specs.declared.layout.Settings.{Settings}
 use Rattle.operation.specs.declared.layout.Lengths.{Lengths}
 use Rattle.validation.specs.declared.Malformed.{Malformed}
@@ -21,9 +22,13 @@ mostOperations = 4096
 abbrev pub mostBytes : ℕ
 mostBytes = 65536
 
--- 10 SETTING: byte order or A out of range.
+-- 10 SETTING, for wordsizes: one of them not 1 to 8.
+unfoldable pub wordsizesInRange : Wordsizes → Bool
+wordsizesInRange wordsizes = isSize (wordsizes .unique) && isSize (wordsizes .register) && isSize (wordsizes .ram)
+
+-- 10 SETTING: byte order, A or a wordsize out of range.
 unfoldable pub settingsInRange : Settings → Bool
-settingsInRange settings = leb (settings .order) 1 && isSize (settings .«address_size»)
+settingsInRange settings = leb (settings .order) 1 && isSize (settings .«address_size») && wordsizesInRange (settings .wordsizes)
 
 -- 11 LENGTH: word count not a multiple of 5, over 4,096 operations, a space over 65,536.
 unfoldable pub lengthsInRange : Lengths → List ℕ → Bool

@@ -3,7 +3,7 @@ ghost use mathlib.Core.Path.{_≡_};
 ghost use Prim.Native.Nat.{_+_, _*_, _≤_};
 ghost use lib.ListN.{length};
 ghost use Rattle.operation.specs.Layout.{wordsPerOperation};
-ghost use Rattle.validation.specs.Verdict.{settingsInRange, lengthsInRange, sizeOrTarget, malformed, verdict, refusalReport};
+ghost use Rattle.validation.specs.Verdict.{wordsizesInRange, settingsInRange, lengthsInRange, sizeOrTarget, malformed, verdict, refusalReport};
 use arithmetic::opcodes::MOST_INPUTS;
 use integer::boolean::both;
 use integer::boolean::either;
@@ -13,6 +13,7 @@ use operation::decode::decode_at;
 use operation::layout::Lengths;
 use operation::layout::Settings;
 use operation::layout::WORDS_PER_OPERATION;
+use operation::layout::Wordsizes;
 use operation::layout::opcode_at;
 use operation::layout::operation_count;
 use operation::layout::varnode_at;
@@ -62,13 +63,22 @@ pub fn refusal_report(ending: u64, index: u64) -> Report
     }
 }
 
-// 10 SETTING: byte order or A out of range.
+// 10 SETTING: byte order, A or a wordsize out of range.
 pub fn settings_in_range(settings: Settings) -> bool
     ensures { λ r. ⌜ r ≡ settingsInRange settings ⌝ }
 {
     let order = settings.order;
     let address_size = settings.address_size;
-    both(order <= 1, is_size(address_size))
+    let two = both(order <= 1, is_size(address_size));
+    both(two, wordsizes_in_range(settings.wordsizes))
+}
+
+// Each wordsize is 1 to 8.
+fn wordsizes_in_range(wordsizes: Wordsizes) -> bool
+    ensures { λ r. ⌜ r ≡ wordsizesInRange wordsizes ⌝ }
+{
+    let two = both(is_size(wordsizes.unique), is_size(wordsizes.register));
+    both(two, is_size(wordsizes.ram))
 }
 
 // 11 LENGTH: word count not a multiple of an operation's, too many operations, a space too long.

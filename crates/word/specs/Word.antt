@@ -6,7 +6,7 @@ use lib.Dec.{leb}
 use lib.ListN.{length, getD}
 use Rattle.word.specs.Sum.{sum, tabulate, digit}
 
--- The size of a varnode or an address: 1 to 8 bytes.
+-- The size of a varnode or an address, or a wordsize: 1 to 8 bytes.
 unfoldable pub isSize : (size : ℕ) → Bool
 isSize size = leb 1 size && leb size 8
 

@@ -6,7 +6,7 @@ use reference::case::{output, LABELS_FRAME, MEMORY_FRAME, MOST_BYTES_A_LINE, MOS
 use reference::run::BUDGET;
 use reference::varnode::{CONSTANT, RAM, REGISTER, UNIQUE};
 
-use crate::lines::bytes_line;
+use crate::lines::{bytes_line, is_digit, DIGITS_BEFORE_WORDSIZES};
 use crate::random::Random;
 use crate::tally::ending;
 
@@ -20,12 +20,13 @@ const BORDERS: [u32; 12] =
 
 /// Changes one thing of a text.
 pub fn damage(text: &mut Vec<u8>, random: &mut Random) {
-    match random.below(16) {
+    match random.below(18) {
         0..=5 => damage_byte(text, random),
         6..=9 => damage_lines(text, random),
         10 | 11 => damage_digits(text, random),
         12 | 13 => add_border_line(text, random),
         14 => damage_end(text, random),
+        15 | 16 => cut_wordsizes_off(text),
         _ => damage_all(text, random),
     }
 }
@@ -71,20 +72,35 @@ fn damage_digits(text: &mut Vec<u8>, random: &mut Random) {
     let pair = random.pick(&["00", "01", "02", "04", "05", "12", "ff"]).to_string();
     let border = format!("{:08x}", random.pick(&BORDERS));
     let pairs = "a5".repeat(random.below(40) as usize);
-    let (start, stop, digits) = match random.below(8) {
-        // What kind of line it is, its space, its offset, and the lengths and the budget of a 01 line.
+    let wordsize = DIGITS_BEFORE_WORDSIZES + 2 * random.below(3) as usize;
+    let (start, stop, digits) = match random.below(9) {
+        // What kind of line it is, its space, its offset, and the lengths and a wordsize of a 01 line.
         0 => (0, 2, pair),
         1 => (2, 4, pair),
         2 => (4, 12, border),
         3 => (6, 14, border),
         4 => (14, 22, border),
         5 => (22, 30, border),
+        6 => (wordsize, wordsize + 2, pair),
         // Two digits fewer; other bytes, of which there may be none or too many.
-        6 => (end.saturating_sub(2), end, String::new()),
+        7 => (end.saturating_sub(2), end, String::new()),
         _ => (12, end, pairs),
     };
     lines[line].splice(start.min(end)..stop.min(end), digits.into_bytes());
     *text = lines.concat();
+}
+
+/// Makes line 1 as long as it was before it had wordsizes.
+fn cut_wordsizes_off(text: &mut Vec<u8>) {
+    let end = text.iter().position(|&byte| byte == b'\n').unwrap_or(text.len());
+    text.drain(DIGITS_BEFORE_WORDSIZES.min(end)..end);
+}
+
+/// Whether line 1 is as a good one was before it had wordsizes.
+pub fn lacks_wordsizes(text: &[u8]) -> bool {
+    let line = text.split(|&byte| byte == b'\n').next().unwrap_or_default();
+    let is_long = text.len() > line.len() && line.len() == DIGITS_BEFORE_WORDSIZES;
+    is_long && line.starts_with(b"01") && line.iter().all(is_digit)
 }
 
 /// Adds a 02 or 03 line whose place or number of bytes is at a border.
@@ -146,7 +162,6 @@ const LARGE_BUDGET: &[u8; 8] = b"00010000";
 /// Gives a text a smaller budget where damage took away what ended its run, which would then go on
 /// for minutes. The text stays as it is otherwise.
 pub fn limit_run(text: &mut Vec<u8>) {
-    let is_digit = |byte: &u8| byte.is_ascii_digit() || (b'a'..=b'f').contains(byte);
     let Some(budget) = text.get(BUDGET_DIGITS) else { return };
     // Digits of one number compare as their values do.
     if !budget.iter().all(is_digit) || budget <= LARGE_BUDGET {
@@ -173,7 +188,7 @@ fn index<T>(items: &[T], random: &mut Random) -> Option<usize> {
 mod tests {
     use super::*;
     use crate::lines::{operation_line, settings_line};
-    use reference::varnode::Lengths;
+    use reference::varnode::{Lengths, Wordsizes};
     use reference::verdict::Settings;
 
     #[test]
@@ -190,7 +205,7 @@ mod tests {
 
     /// A text whose run is a BRANCH by a distance, with this budget.
     fn branch_by(distance: u64, budget: u32) -> Vec<u8> {
-        let settings = Settings { order: 0, address_size: 4 };
+        let settings = Settings { order: 0, address_size: 4, wordsizes: Wordsizes::ONE };
         let lengths = Lengths { unique: 1, register: 1, ram: 1 };
         let branch = operation_line(&[0x11_00_04, 0, distance, 0, 0]);
         (settings_line(&settings, &lengths, budget) + &branch).into_bytes()
@@ -210,5 +225,21 @@ mod tests {
         }
         let bad_budget = branch_by(0, u32::MAX).to_ascii_uppercase();
         assert_eq!(limited(bad_budget.clone()), bad_budget);
+    }
+
+    #[test]
+    fn wordsizes_can_be_cut_off() {
+        let good = branch_by(1, 9);
+        let mut text = good.clone();
+        cut_wordsizes_off(&mut text);
+        assert_eq!(text[..39], [&good[..38], b"\n"].concat());
+        assert_eq!(text[39..], good[45..]);
+        assert_eq!(output(&text), b"41 1 0 0 0\n");
+        assert!(lacks_wordsizes(&text) && !lacks_wordsizes(&good));
+        let mut other = text.clone();
+        other[37] = b'G';
+        for text in [&text[..38], &text[1..], &other, b"01\n", b"\n", b""] {
+            assert!(!lacks_wordsizes(text));
+        }
     }
 }

@@ -2,7 +2,7 @@
 
 use reference::case::{LABELS_FRAME, LONGEST_SPACE, MEMORY_FRAME, MOST_BYTES_A_LINE};
 use reference::memory::SECRET;
-use reference::varnode::{Lengths, RAM, REGISTER, UNIQUE};
+use reference::varnode::{Lengths, Wordsizes, RAM, REGISTER, UNIQUE};
 use reference::verdict::Settings;
 
 use crate::lines::{bytes_line, operation_line, settings_line};
@@ -14,9 +14,10 @@ pub const LARGE: usize = 1_000_000;
 /// INT_ADD of the first bytes of unique and register, and a LOAD from ram, so that the bytes decide.
 const OPERATIONS: [[u64; 5]; 2] = [[0x38_28_28_15, 0, 0, 0, 0], [0x12_11_34_02, 8, 4, 0x20, 0]];
 
-/// A first line for spaces of the greatest length, big byte order and A = 2.
+/// A first line for spaces of the greatest length, big byte order, A = 2 and 24-bit words in ram.
 fn first_line() -> String {
-    let settings = Settings { order: 1, address_size: 2 };
+    let wordsizes = Wordsizes { ram: 3, ..Wordsizes::ONE };
+    let settings = Settings { order: 1, address_size: 2, wordsizes };
     let lengths = Lengths { unique: LONGEST_SPACE, register: LONGEST_SPACE, ram: LONGEST_SPACE };
     settings_line(&settings, &lengths, 1_000)
 }

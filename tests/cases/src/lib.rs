@@ -3,12 +3,14 @@
 
 pub mod damage;
 pub mod large;
+pub mod lengthen;
 pub mod lines;
 pub mod list;
 pub mod process;
 pub mod random_cases;
 pub mod stored;
 pub mod tally;
+pub mod wordsizes;
 
 // The campaigns and the random lists of tests/compare. That package itself cannot be a dependency: it
 // links the interpreter's archive.

@@ -9,10 +9,10 @@ use reference::machine::State;
 use reference::memory::{Spaces, SECRET};
 use reference::opcodes::{Opcode, Operation, OPERATIONS};
 use reference::run::{run, Program, BUDGET};
-use reference::varnode::{Lengths, Varnode, CONSTANT, RAM, REGISTER, UNIQUE};
-use reference::verdict::Settings;
+use reference::varnode::{Lengths, Varnode, Wordsizes, CONSTANT, RAM, REGISTER, UNIQUE};
+use reference::verdict::{Report, Settings};
 
-use crate::inputs::{largest_value, GOOD_ORDERS};
+use crate::inputs::largest_value;
 use crate::lines::{bytes_line, operation_line, settings_line};
 use crate::lists::{Frame, Generator};
 use crate::random::Random;
@@ -24,12 +24,12 @@ const MOST_ROUNDS: u64 = 1_400;
 
 /// The places of an entry that are looked at here.
 const OUTPUT: usize = 0;
-const INPUT0: usize = 1;
-const INPUT1: usize = 2;
+pub(crate) const INPUT0: usize = 1;
+pub(crate) const INPUT1: usize = 2;
 const INPUT2: usize = 3;
 
 /// The spaces that a line can name.
-const SPACES: [u64; 3] = [UNIQUE, REGISTER, RAM];
+pub(crate) const SPACES: [u64; 3] = [UNIQUE, REGISTER, RAM];
 
 /// A case before it is written as text.
 #[derive(Clone, Debug)]
@@ -40,9 +40,22 @@ pub struct Case {
     pub labels: Spaces,
 }
 
+impl Case {
+    /// What the second program's run reports with a budget, and what it leaves.
+    pub fn run(&self, budget: u32) -> (Report, State) {
+        let program = Program { settings: self.call.settings, list: self.call.list.clone() };
+        let mut state = State {
+            memory: self.memory.clone(),
+            labels: Some(self.labels.clone()),
+            log: vec![0; LOG_WORDS],
+        };
+        (run(&program, 0, budget, &mut state), state)
+    }
+}
+
 /// Makes random cases.
 pub struct Cases {
-    lists: Generator,
+    pub(crate) lists: Generator,
 }
 
 impl Cases {
@@ -58,7 +71,10 @@ impl Cases {
     pub fn case(&mut self) -> Case {
         let mut case = match self.random().below(20) {
             0 => return self.long_loop(),
-            _ => self.well_formed(),
+            _ => {
+                let settings = self.lists.settings();
+                self.well_formed(settings)
+            }
         };
         if self.random().once_in(3) {
             self.damage(&mut case);
@@ -68,14 +84,13 @@ impl Cases {
     }
 
     /// A case that keeps every rule, with budget 0.
-    fn well_formed(&mut self) -> Case {
-        let settings =
-            Settings { order: self.random().pick(&GOOD_ORDERS), address_size: self.lists.size() };
+    pub(crate) fn well_formed(&mut self, settings: Settings) -> Case {
         let lengths =
             Lengths { unique: self.length(), register: self.length(), ram: self.length() };
         let count = self.count();
         let frame = Frame { address_size: settings.address_size, lengths, count };
-        let entries: Vec<Entry> = (0..count).map(|index| self.entry(&frame, index)).collect();
+        let entries: Vec<Entry> =
+            (0..count).map(|index| self.entry(&frame, &settings.wordsizes, index)).collect();
         let memory = self.memory(&lengths);
         let labels = self.labels(&lengths);
         let call = VerdictCall { settings, lengths, list: list_of(&entries) };
@@ -97,8 +112,11 @@ impl Cases {
     /// drawn for the run that the text will ask for.
     fn damage_settings(&mut self, settings: &mut Settings) {
         self.lists.damage_settings(settings);
-        settings.order %= 0x100;
-        settings.address_size %= 0x100;
+        let Settings { order, address_size, wordsizes: Wordsizes { unique, register, ram } } =
+            settings;
+        for number in [order, address_size, unique, register, ram] {
+            *number %= 0x100;
+        }
     }
 
     /// Makes one label a number that is none.
@@ -128,7 +146,7 @@ impl Cases {
 
     /// A loop that counts down, with operations that write log words: up to a log that is full.
     fn long_loop(&mut self) -> Case {
-        let settings = Settings { order: self.random().pick(&GOOD_ORDERS), address_size: 1 };
+        let settings = Settings { address_size: 1, ..self.lists.settings() };
         let lengths = Lengths { unique: 4, register: 4, ram: 4 };
         let counter = Varnode { space: UNIQUE, offset: 0, size: 2 };
         let flag = Varnode { space: UNIQUE, offset: 2, size: 1 };
@@ -137,7 +155,7 @@ impl Cases {
         let first = entries.len() as u64;
         entries.push(with_output(Opcode::IntSub, counter, counter, Some(constant(1, 2))));
         for _ in 0..self.random().below(4) {
-            entries.push(self.logged());
+            entries.push(self.logged(&settings.wordsizes));
         }
         entries.push(with_output(Opcode::IntNotEqual, flag, counter, Some(constant(0, 2))));
         let back = constant(first.wrapping_sub(entries.len() as u64), 8);
@@ -152,14 +170,18 @@ impl Cases {
     }
 
     /// An operation of a loop that writes a log word, and does not touch the loop's own varnodes.
-    fn logged(&mut self) -> Entry {
-        let space = constant(self.random().pick(&[REGISTER, RAM]), 1);
-        let pointer = constant(self.random().below(3), 1);
+    fn logged(&mut self, wordsizes: &Wordsizes) -> Entry {
         let register = Varnode { space: REGISTER, offset: self.random().below(3), size: 2 };
+        let space = self.random().pick(&[REGISTER, RAM]);
+        // Of two bytes, 2 is the last byte offset in a loop's spaces.
+        let last = 2 / wordsizes.of(space).unwrap_or(1);
+        let pointer = constant(self.random().below(last + 1), 1);
+        let condition = constant(self.random().below(3), 1);
+        let space = constant(space, 1);
         let (opcode, varnodes) = match self.random().below(3) {
             0 => (Opcode::Load, [Some(register), Some(space), Some(pointer), None]),
             1 => (Opcode::Store, [None, Some(space), Some(pointer), Some(register)]),
-            _ => (Opcode::Cbranch, [None, Some(constant(1, 1)), Some(pointer), None]),
+            _ => (Opcode::Cbranch, [None, Some(constant(1, 1)), Some(condition), None]),
         };
         Entry::new(opcode as u8, varnodes)
     }
@@ -185,7 +207,7 @@ impl Cases {
     }
 
     /// An operation that keeps every rule; BRANCH, at least, always has room.
-    fn entry(&mut self, frame: &Frame, index: u64) -> Entry {
+    fn entry(&mut self, frame: &Frame, wordsizes: &Wordsizes, index: u64) -> Entry {
         loop {
             let operation = self.random().pick(&OPERATIONS);
             let ends_the_run =
@@ -195,7 +217,7 @@ impl Cases {
             }
             if let Some(mut entry) = self.lists.entry_with_room(&operation, frame, index) {
                 if !self.random().once_in(4) {
-                    self.keep_going(&operation, &mut entry, frame);
+                    self.keep_going(&operation, &mut entry, frame, wordsizes);
                 }
                 return entry;
             }
@@ -203,7 +225,13 @@ impl Cases {
     }
 
     /// Changes an operation that would mostly end the run into one that does not.
-    fn keep_going(&mut self, operation: &Operation, entry: &mut Entry, frame: &Frame) {
+    fn keep_going(
+        &mut self,
+        operation: &Operation,
+        entry: &mut Entry,
+        frame: &Frame,
+        wordsizes: &Wordsizes,
+    ) {
         if operation.has_destination() {
             put(entry, INPUT0, constant(1, 8));
         }
@@ -213,12 +241,12 @@ impl Cases {
             put(entry, INPUT1, constant(divisor, size));
         }
         if [Opcode::Load, Opcode::Store].contains(&operation.opcode) {
-            let accessed = [OUTPUT, INPUT2].map(|place| entry.descriptors[place] % 16);
-            let size = u64::from(accessed[0].max(accessed[1]));
-            let len = frame.lengths.of(entry.offsets[INPUT0]).unwrap_or(0);
-            let past_the_last = (len + 1).saturating_sub(size).max(1);
-            let offset = self.random().below(past_the_last) & largest_value(frame.address_size);
-            put(entry, INPUT1, constant(offset, frame.address_size));
+            let size = accessed_size(entry);
+            let space = entry.offsets[INPUT0];
+            let len = frame.lengths.of(space).unwrap_or(0);
+            let last = len.saturating_sub(size) / wordsizes.of(space).unwrap_or(1);
+            let pointer = self.random().below(last + 1) & largest_value(frame.address_size);
+            put(entry, INPUT1, constant(pointer, frame.address_size));
         }
     }
 
@@ -254,14 +282,8 @@ impl Cases {
     }
 
     /// A budget around what the run needs; a large one only for a run that ends by itself.
-    fn budget(&mut self, case: &Case) -> u32 {
-        let program = Program { settings: case.call.settings, list: case.call.list.clone() };
-        let mut state = State {
-            memory: case.memory.clone(),
-            labels: Some(case.labels.clone()),
-            log: vec![0; LOG_WORDS],
-        };
-        let report = run(&program, 0, LONGEST_RUN, &mut state);
+    pub(crate) fn budget(&mut self, case: &Case) -> u32 {
+        let (report, _) = case.run(LONGEST_RUN);
         let executed = report.executed as u32;
         let below = self.random().below(report.executed + 1) as u32;
         let mut budgets = vec![0, 1, below, executed, executed, LONGEST_RUN, LONGEST_RUN];
@@ -330,12 +352,23 @@ impl Cases {
     }
 }
 
-fn constant(offset: u64, size: u64) -> Varnode {
+pub(crate) fn constant(offset: u64, size: u64) -> Varnode {
     Varnode { space: CONSTANT, offset, size }
 }
 
+/// How many bytes a LOAD or a STORE accesses.
+pub(crate) fn accessed_size(entry: &Entry) -> u64 {
+    let [loaded, stored] = [OUTPUT, INPUT2].map(|place| entry.descriptors[place] % 16);
+    u64::from(loaded.max(stored))
+}
+
 /// An operation with an output, one input, and maybe a second.
-fn with_output(opcode: Opcode, output: Varnode, input0: Varnode, input1: Option<Varnode>) -> Entry {
+pub(crate) fn with_output(
+    opcode: Opcode,
+    output: Varnode,
+    input0: Varnode,
+    input1: Option<Varnode>,
+) -> Entry {
     Entry::new(opcode as u8, [Some(output), Some(input0), input1, None])
 }
 

@@ -1,22 +1,26 @@
 //! Random texts: the case program and the second program print the same.
 
 use cases::campaign::Campaign;
-use cases::damage::{damage, limit_run};
+use cases::damage::{damage, lacks_wordsizes, limit_run};
 use cases::large;
 use cases::process::{assert_printed, CaseProgram, WHOLE};
 use cases::random::Random;
 use cases::random_cases::Cases;
 use cases::tally::{Tally, ENDINGS};
+use cases::wordsizes::Shown;
 use reference::case::{output, BAD_LINE, MOST_BYTES_A_LINE};
 
 /// The rarest ending comes about 54 times among so many, so that its quota holds for other seeds too.
 const GOOD_TEXTS: u64 = 6_000;
+const WORDSIZE_TEXTS: u64 = 3_000;
 const DAMAGED_TEXTS: u64 = 2_500;
 const LARGE_TEXTS: u64 = 26;
 
-/// How often each ending should come, and a bad line.
+/// How often each ending should come, what a wordsize does, a bad line, and one without wordsizes.
 const ENDING_QUOTA: u64 = 30;
+const WORDSIZE_QUOTA: u64 = 500;
 const BAD_LINE_QUOTA: u64 = 1_000;
+const LACKING_QUOTA: u64 = 200;
 
 /// Compares the two programs on a text that arrives in parts of at most `part_len` bytes.
 fn check(program: &CaseProgram, text: &[u8], part_len: usize, what: &str, tally: &mut Tally) {
@@ -58,12 +62,34 @@ fn good_texts() {
 }
 
 #[test]
+fn texts_with_wordsizes() {
+    const SEED: u64 = 0x5eed_0054;
+    let program = CaseProgram::find();
+    let mut campaign = Campaign::new(SEED, WORDSIZE_TEXTS);
+    let mut tally = Tally::default();
+    let mut shown = Shown::default();
+    for (number, random) in campaign.by_ref() {
+        let mut cases = Cases::new(random);
+        let case = cases.wordsize_case();
+        let text = cases.text(&case);
+        let part_len = part_len(cases.random(), &text);
+        check(&program, &text, part_len, &format!("text with wordsizes {number}"), &mut tally);
+        shown.count(&case);
+    }
+    println!("texts with wordsizes: {campaign}, {tally}, {shown}");
+    if campaign.is_whole() {
+        shown.assert_quota(WORDSIZE_QUOTA);
+    }
+}
+
+#[test]
 fn damaged_texts() {
     const SEED: u64 = 0x5eed_0052;
     let program = CaseProgram::find();
     let mut campaign = Campaign::new(SEED, DAMAGED_TEXTS);
     let mut tally = Tally::default();
     let mut in_parts = 0;
+    let mut lacking = 0;
     for (number, random) in campaign.by_ref() {
         let mut cases = Cases::new(random);
         let case = cases.case();
@@ -73,11 +99,15 @@ fn damaged_texts() {
         limit_run(&mut text);
         let part_len = part_len(cases.random(), &text);
         in_parts += u64::from(part_len != WHOLE);
+        lacking += u64::from(lacks_wordsizes(&text));
         check(&program, &text, part_len, &format!("damaged text {number}"), &mut tally);
     }
-    println!("damaged texts: {campaign}, {tally}, {in_parts} arrived in parts");
+    println!(
+        "damaged texts: {campaign}, {tally}, {in_parts} arrived in parts, {lacking} lack wordsizes"
+    );
     if campaign.is_whole() {
         tally.assert_quota(&[BAD_LINE], BAD_LINE_QUOTA);
+        assert!(lacking >= LACKING_QUOTA, "line 1 lacked wordsizes only {lacking} times");
     }
 }
 

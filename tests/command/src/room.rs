@@ -242,5 +242,5 @@ impl Default for SmallRepository {
 pub const WAIT: &str = "touch \"$tools/here\"\nuntil [ -e \"$tools/go\" ]; do sleep 0.05; done\n";
 
 /// A case whose one operation branches to itself, with the largest budget.
-pub const ENDLESS_CASE: &str = "010004000000000000000000000000ffffffff\n\
+pub const ENDLESS_CASE: &str = "010004000000000000000000000000ffffffff010101\n\
     0400000000001100040000000000000000000000000000000000000000000000000000000000000000\n";

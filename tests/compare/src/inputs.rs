@@ -30,6 +30,9 @@ pub const GOOD_AND_BAD_SIZES: [u64; 17] = [
 pub const GOOD_ORDERS: [u64; 2] = [0, 1];
 pub const GOOD_AND_BAD_ORDERS: [u64; 6] = [0, 1, 2, 256, (1 << 32) + 1, u64::MAX];
 
+/// Numbers that are no wordsize: beside the good ones, and large ones whose low bits make a good one.
+pub const BAD_WORDSIZES: [u64; 8] = [0, 9, 16, 255, 256 + 1, (1 << 32) + 4, 1 << 63, u64::MAX];
+
 /// Offsets that wrap when a size is added, or fit when cut to fewer bits.
 pub const LARGE_OFFSETS: [u64; 16] = [
     1 << 16,
@@ -58,6 +61,11 @@ pub fn largest_value(size: u64) -> u64 {
 /// The least number that is no value of `size` bytes, if 64 bits hold it.
 pub fn first_value_too_large(size: u64) -> Option<u64> {
     u64::try_from(modulus(size)).ok()
+}
+
+/// The least pointer whose product with a wordsize is no value of `size` bytes, if 64 bits hold it.
+pub fn first_product_too_large(size: u64, wordsize: u64) -> Option<u64> {
+    u64::try_from(modulus(size).div_ceil(u128::from(wordsize))).ok()
 }
 
 /// The values at the borders of a size: 0, 1, around half, all ones, and the powers of two. An

@@ -7,9 +7,10 @@ pub mod lists;
 pub mod programs;
 pub mod random;
 pub mod runs;
+pub mod wordsizes;
 
 use reference::answers::{Place, RunCall, ValueCall, VerdictCall};
-use reference::varnode::Varnode;
+use reference::varnode::{Varnode, Wordsizes};
 use reference::verdict::Settings;
 
 pub use reference::memory::Spaces;
@@ -208,9 +209,10 @@ pub fn scatter(place: &Place, bytes: &mut [u8], value: u64) -> u64 {
     }
 }
 
-/// The words of settings, and words behind them. A call is lent the first few.
-pub fn settings_words(settings: &Settings) -> [u64; 4] {
-    [settings.order, settings.address_size, 1, 8]
+/// The five words of settings, and words behind them. A call is lent the first few.
+pub fn settings_words(settings: &Settings) -> [u64; 8] {
+    let Wordsizes { unique, register, ram } = settings.wordsizes;
+    [settings.order, settings.address_size, unique, register, ram, 1, 8, 1]
 }
 
 /// The interpreter's answer to a call of `undrelvoa_validate`.

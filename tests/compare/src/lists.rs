@@ -7,17 +7,20 @@ use std::sync::LazyLock;
 use reference::answers::{LentWords, VerdictCall};
 use reference::list::{list_of, varnode, Entry, WORDS_PER_OPERATION};
 use reference::opcodes::{Opcode, Operation, Sizes, OPERATIONS};
-use reference::varnode::{Lengths, Varnode, CONSTANT, RAM, REGISTER, UNIQUE};
+use reference::varnode::{Lengths, Varnode, Wordsizes, CONSTANT, RAM, REGISTER, UNIQUE};
 use reference::verdict::{Settings, LONGEST_SPACE, MOST_OPERATIONS};
 
 use crate::inputs::{
-    first_value_too_large, GOOD_AND_BAD_ORDERS, GOOD_AND_BAD_SIZES, GOOD_ORDERS, LARGE_OFFSETS,
-    SIZES,
+    first_value_too_large, BAD_WORDSIZES, GOOD_AND_BAD_ORDERS, GOOD_AND_BAD_SIZES, GOOD_ORDERS,
+    LARGE_OFFSETS, SIZES,
 };
 use crate::random::Random;
 
 /// Output, input0, input1 and input2: where a varnode can stand in an operation.
 pub const PLACES: Range<usize> = 0..4;
+
+/// Numbers of settings words to be refused.
+const OTHER_SETTINGS_WORDS: [usize; 8] = [0, 1, 2, 3, 4, 6, 7, 8];
 
 /// An operation with these sizes whose varnodes are in different spaces, at offset 0. Its sizes need
 /// not go together; in spaces of 8 bytes it keeps all other rules, wherever it stands.
@@ -80,8 +83,11 @@ impl Generator {
             return LentWords { settings, report: self.random.below(5) as usize };
         }
         let report = report + self.random.below(4) as usize;
-        let settings =
-            if self.random.once_in(20) { self.random.pick(&[0, 1, 3, 4]) } else { settings };
+        let settings = if self.random.once_in(20) {
+            self.random.pick(&OTHER_SETTINGS_WORDS)
+        } else {
+            settings
+        };
         LentWords { settings, report }
     }
 
@@ -97,14 +103,32 @@ impl Generator {
 
     /// A call that keeps every rule.
     pub fn well_formed_call(&mut self) -> VerdictCall {
-        let settings =
-            Settings { order: self.random.pick(&GOOD_ORDERS), address_size: self.size() };
+        let settings = self.settings();
         let lengths =
             Lengths { unique: self.length(), register: self.length(), ram: self.length() };
         let frame = Frame { address_size: settings.address_size, lengths, count: self.count() };
         let entries: Vec<Entry> =
             (0..frame.count).map(|index| self.well_formed_entry(&frame, index)).collect();
         VerdictCall { settings, lengths, list: list_of(&entries) }
+    }
+
+    /// Settings in range.
+    pub(crate) fn settings(&mut self) -> Settings {
+        Settings {
+            order: self.random.pick(&GOOD_ORDERS),
+            address_size: self.size(),
+            wordsizes: self.wordsizes(),
+        }
+    }
+
+    /// Wordsizes in range: half of the time 1 in all spaces, else any in each, or one in all.
+    fn wordsizes(&mut self) -> Wordsizes {
+        let [unique, register, ram] = [(); 3].map(|()| self.size());
+        match self.random.below(8) {
+            0..=3 => Wordsizes::ONE,
+            4 => Wordsizes { unique, register: unique, ram: unique },
+            _ => Wordsizes { unique, register, ram },
+        }
     }
 
     /// A size of a varnode.
@@ -233,10 +257,19 @@ impl Generator {
     }
 
     pub(crate) fn damage_settings(&mut self, settings: &mut Settings) {
-        if self.random.once_in(2) {
-            settings.order = self.random.pick(&GOOD_AND_BAD_ORDERS);
-        } else {
-            settings.address_size = self.random.pick(&GOOD_AND_BAD_SIZES);
+        match self.random.below(4) {
+            0 => settings.order = self.random.pick(&GOOD_AND_BAD_ORDERS),
+            1 => settings.address_size = self.random.pick(&GOOD_AND_BAD_SIZES),
+            _ => self.damage_wordsize(&mut settings.wordsizes),
+        }
+    }
+
+    fn damage_wordsize(&mut self, wordsizes: &mut Wordsizes) {
+        let wordsize = self.random.pick(&BAD_WORDSIZES);
+        match self.random.below(3) {
+            0 => wordsizes.unique = wordsize,
+            1 => wordsizes.register = wordsize,
+            _ => wordsizes.ram = wordsize,
         }
     }
 

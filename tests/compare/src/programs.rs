@@ -9,16 +9,18 @@ use reference::machine::State;
 use reference::memory::{Spaces, PUBLIC, SECRET};
 use reference::opcodes::{Opcode, Operation, OPERATIONS};
 use reference::run::{run, Program, BUDGET};
-use reference::varnode::{Lengths, Varnode, CONSTANT, RAM};
+use reference::varnode::{Lengths, Varnode, Wordsizes, CONSTANT, RAM};
 use reference::verdict::{Settings, LONGEST_SPACE};
 
-use crate::inputs::{largest_value, GOOD_ORDERS, LARGE_OFFSETS};
+use crate::inputs::{first_product_too_large, largest_value, LARGE_OFFSETS};
 use crate::lists::{Frame, Generator};
 use crate::random::Random;
 use crate::runs::Case;
 
 /// The most operations that a run executes which does not end by itself.
 const LONGEST_RUN: u32 = 150;
+/// The same for a run that should show what few operations do.
+const SHORT_RUN: u32 = 40;
 
 /// The places of an entry: output and inputs.
 const OUTPUT: usize = 0;
@@ -33,9 +35,24 @@ pub struct Programs {
 
 /// A list that grows, and the values that its memory should have where it starts.
 struct Draft {
+    settings: Settings,
     frame: Frame,
+    /// Whether most operations should be LOAD or STORE.
+    many_accesses: bool,
     entries: Vec<Entry>,
     values: Vec<(Varnode, u64)>,
+}
+
+impl Draft {
+    fn new(settings: Settings, lengths: Lengths, count: u64) -> Draft {
+        let frame = Frame { address_size: settings.address_size, lengths, count };
+        Draft { settings, frame, many_accesses: false, entries: vec![], values: vec![] }
+    }
+
+    /// The wordsize of the space that a LOAD or a STORE names.
+    fn wordsize(&self, access: &Entry) -> u64 {
+        self.settings.wordsizes.of(access.offsets[INPUT0]).unwrap_or(1)
+    }
 }
 
 impl Programs {
@@ -70,6 +87,41 @@ impl Programs {
         case
     }
 
+    /// A case that keeps every rule, whose wordsizes are not all 1. Its operations are few, and most of
+    /// them are LOAD or STORE; mostly nothing else ends the run.
+    pub fn access_case(&mut self) -> Case {
+        let settings = self.wide_settings();
+        let lengths = if settings.address_size == 1 && self.once_in(2) {
+            Lengths { unique: self.long(), register: self.long(), ram: self.long() }
+        } else {
+            self.lengths()
+        };
+        let count = 1 + self.below(6);
+        let draft = Draft { many_accesses: true, ..Draft::new(settings, lengths, count) };
+        let mut case = self.filled(draft);
+        case.call.start = 0;
+        if self.once_in(8) {
+            self.set_budget_and_log(&mut case);
+        } else {
+            case.call.budget = SHORT_RUN;
+            case.state.log = (0..SHORT_RUN).map(|_| self.lists.random.word()).collect();
+        }
+        case
+    }
+
+    /// Settings in range whose wordsizes are not all 1. Only an address of 8 bytes has a product that
+    /// 64 bits do not hold.
+    fn wide_settings(&mut self) -> Settings {
+        let mut settings = self.lists.settings();
+        while settings.wordsizes == Wordsizes::ONE {
+            settings = self.lists.settings();
+        }
+        if self.once_in(2) {
+            settings.address_size = 8;
+        }
+        settings
+    }
+
     fn below(&mut self, limit: u64) -> u64 {
         self.lists.random.below(limit)
     }
@@ -84,12 +136,16 @@ impl Programs {
 
     /// A well-formed case without budget and log.
     fn case_without_limits(&mut self) -> Case {
-        let settings = Settings { order: self.pick(&GOOD_ORDERS), address_size: self.lists.size() };
-        let lengths =
-            Lengths { unique: self.length(), register: self.length(), ram: self.length() };
+        let settings = self.lists.settings();
+        let lengths = self.lengths();
         let count = if self.once_in(30) { self.below(200) } else { self.below(25) };
-        let frame = Frame { address_size: settings.address_size, lengths, count };
-        let draft = self.list(frame);
+        self.filled(Draft::new(settings, lengths, count))
+    }
+
+    /// The case of a draft that is still empty, without budget and log.
+    fn filled(&mut self, mut draft: Draft) -> Case {
+        self.fill(&mut draft);
+        let Draft { settings, frame: Frame { lengths, count, .. }, .. } = draft;
         let mut memory = self.memory(&lengths);
         let order = if settings.order == 0 { ByteOrder::Little } else { ByteOrder::Big };
         for (place, value) in &draft.values {
@@ -104,6 +160,15 @@ impl Programs {
         let program = Program { settings, list: list_of(&draft.entries) };
         let call = RunCall { program, start, budget: 0 };
         Case { call, state: State { memory, labels, log: vec![] } }
+    }
+
+    fn lengths(&mut self) -> Lengths {
+        Lengths { unique: self.length(), register: self.length(), ram: self.length() }
+    }
+
+    /// How many bytes a space has that an address of 1 byte reaches only with a wordsize.
+    fn long(&mut self) -> u64 {
+        250 + self.below(8 * 256)
     }
 
     /// How many bytes a space has: mostly few, so that varnodes overlap.
@@ -155,25 +220,24 @@ impl Programs {
         labels
     }
 
-    /// A list of single operations and loops that keeps every rule.
-    fn list(&mut self, frame: Frame) -> Draft {
-        let mut draft = Draft { frame, entries: vec![], values: vec![] };
+    /// Makes the list of single operations and loops that keep every rule.
+    fn fill(&mut self, draft: &mut Draft) {
         while (draft.entries.len() as u64) < draft.frame.count {
             if self.once_in(10) {
-                self.add_loop(&mut draft);
+                self.add_loop(draft);
             } else {
-                self.add_operation(&mut draft);
+                self.add_operation(draft);
             }
         }
         draft.entries.truncate(draft.frame.count as usize);
-        draft
     }
 
     /// Adds one operation; BRANCH, at least, always has room.
     fn add_operation(&mut self, draft: &mut Draft) {
         let index = draft.entries.len() as u64;
         let mut entry = loop {
-            let operation = self.operation();
+            let is_access = draft.many_accesses && !self.once_in(4);
+            let operation = if is_access { self.access() } else { self.operation() };
             if let Some(entry) = self.lists.entry_with_room(&operation, &draft.frame, index) {
                 break entry;
             }
@@ -185,6 +249,12 @@ impl Programs {
             self.stay(&mut entry, index, draft.frame.count);
         }
         draft.entries.push(entry);
+    }
+
+    /// LOAD or STORE.
+    fn access(&mut self) -> Operation {
+        let opcode = self.pick(&[Opcode::Load, Opcode::Store]);
+        OPERATIONS[opcode as usize - 1]
     }
 
     /// Any operation; one that always ends the run is drawn less often.
@@ -209,7 +279,7 @@ impl Programs {
     /// from the start on, or one that an operation before it writes. Any other pointer stays.
     fn aim(&mut self, entry: &mut Entry, draft: &mut Draft) {
         let size = draft.frame.address_size;
-        let address = self.address(entry, &draft.frame);
+        let address = self.address(entry, draft);
         let constant = Varnode { space: CONSTANT, offset: address, size };
         let pointer = match self.below(10) {
             0 => return,
@@ -228,21 +298,32 @@ impl Programs {
         point(entry, pointer);
     }
 
-    /// An offset for a LOAD or a STORE: mostly in bounds, else around the end of the space or of the
-    /// 64-bit numbers.
-    fn address(&mut self, entry: &Entry, frame: &Frame) -> u64 {
+    /// A pointer for a LOAD or a STORE: mostly in bounds, else around the end of the space or of the
+    /// 64-bit numbers, or with a product that is in bounds when cut to fewer bits.
+    fn address(&mut self, entry: &Entry, draft: &Draft) -> u64 {
         let accessed = [OUTPUT, INPUT2].map(|place| entry.descriptors[place] % 16);
         let size = u64::from(accessed[0].max(accessed[1]));
-        let len = frame.lengths.of(entry.offsets[INPUT0]).unwrap_or(0);
-        let past_the_last = (len + 1).saturating_sub(size);
-        let address = match self.below(16) {
+        let len = draft.frame.lengths.of(entry.offsets[INPUT0]).unwrap_or(0);
+        let wordsize = draft.wordsize(entry);
+        let past_the_last_byte = (len + 1).saturating_sub(size);
+        let past_the_last = past_the_last_byte.div_ceil(wordsize);
+        let address_size = draft.frame.address_size;
+        let address = match self.below(20) {
             0 => past_the_last + self.below(9),
-            1 => largest_value(frame.address_size) - self.below(9),
+            1 => largest_value(address_size) - self.below(9),
             2 => self.pick(&LARGE_OFFSETS),
             3..=5 => past_the_last.saturating_sub(1),
+            6 => 0,
+            // In bounds as a byte offset, but not as a pointer.
+            7 => past_the_last + self.below((past_the_last_byte - past_the_last).max(1)),
+            8 | 9 => {
+                let cut = self.pick(&[8, 8, 4, address_size]);
+                let too_large = first_product_too_large(cut, wordsize).unwrap_or(u64::MAX);
+                (too_large - 1).saturating_add(self.below(4))
+            }
             _ => self.below(past_the_last.max(1)),
         };
-        if fits(address, frame.address_size) {
+        if fits(address, address_size) {
             address
         } else {
             self.below(past_the_last.clamp(1, 256))
@@ -255,16 +336,15 @@ impl Programs {
         let address_size = draft.frame.address_size;
         let lengths = draft.frame.lengths;
         let places = self.lists.output(1, &lengths).zip(self.lists.output(address_size, &lengths));
-        let access = self.pick(&[Opcode::Load, Opcode::Store]);
+        let access = self.access();
         let index = draft.entries.len() as u64;
-        let access = &OPERATIONS[access as usize - 1];
-        let entry = self.lists.entry_with_room(access, &draft.frame, index);
+        let entry = self.lists.entry_with_room(&access, &draft.frame, index);
         let Some(((counter, pointer), mut access)) = places.zip(entry) else {
             return self.add_operation(draft);
         };
         let constant = |offset, size| Varnode { space: CONSTANT, offset, size };
         let rounds = constant(1 + self.below(5), 1);
-        let address = constant(self.address(&access, &draft.frame), address_size);
+        let address = constant(self.address(&access, draft), address_size);
         draft.entries.extend([copy(counter, rounds), copy(pointer, address)]);
         let first = draft.entries.len();
         point(&mut access, pointer);
@@ -272,7 +352,7 @@ impl Programs {
         if self.once_in(2) {
             self.add_operation(draft);
         }
-        let forward = 1 + self.below(8);
+        let forward = 1 + self.below(8 / draft.wordsize(&access));
         let distance =
             if self.once_in(4) { largest_value(address_size) - forward } else { forward };
         let distance = constant(distance, address_size);

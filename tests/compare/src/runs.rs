@@ -112,11 +112,14 @@ pub fn interpreter_answer(
     state: &mut State,
     report: &mut [u64],
 ) -> u64 {
+    let mut guarded_settings = Guarded::around(settings, guard_word);
+    let mut settings_after = settings.to_vec();
     let mut memory = GuardedSpaces::around(&state.memory);
     let mut labels = state.labels.as_ref().map(GuardedSpaces::around);
     let mut log = Guarded::around(&state.log, guard_word);
     let mut guarded_report = Guarded::around(report, guard_word);
     let answer = {
+        let settings = guarded_settings.lent();
         let (memory, log, report) = (memory.lent(), log.lent(), guarded_report.lent());
         match (job, labels.as_mut()) {
             (Job::Run, None) => run(call, settings, memory, log, report),
@@ -130,11 +133,13 @@ pub fn interpreter_answer(
         }
     };
     let guards = [
+        ("settings", guarded_settings.give_back(guard_word, &mut settings_after)),
         ("memory", memory.give_back(&mut state.memory)),
         ("labels", labels.zip(state.labels.as_mut()).is_none_or(|(from, to)| from.give_back(to))),
         ("log", log.give_back(guard_word, &mut state.log)),
         ("report", guarded_report.give_back(guard_word, report)),
     ];
+    assert_eq!(settings_after, settings, "the {job:?} wrote into its settings");
     for (name, holds) in guards {
         assert!(
             holds,

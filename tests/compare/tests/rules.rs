@@ -2,17 +2,19 @@
 
 use compare::agreement::{check_verdict, Tally, MOST_RESULT_WORDS};
 use compare::inputs::{
-    first_value_too_large, largest_value, GOOD_AND_BAD_ORDERS, GOOD_AND_BAD_SIZES, LARGE_OFFSETS,
-    SIZES,
+    first_value_too_large, largest_value, BAD_WORDSIZES, GOOD_AND_BAD_ORDERS, GOOD_AND_BAD_SIZES,
+    LARGE_OFFSETS, SIZES,
 };
 use compare::lists::{good_entry, plain_entry, PLACES};
 use reference::answers::{LentWords, VerdictCall};
 use reference::list::{descriptor, list_of, Entry};
 use reference::opcodes::{Operation, Sizes, OPERATIONS};
-use reference::varnode::{Lengths, Varnode, CONSTANT, RAM, REGISTER, UNIQUE};
+use reference::varnode::{Lengths, Varnode, Wordsizes, CONSTANT, RAM, REGISTER, UNIQUE};
 use reference::verdict::Settings;
 
-const SETTINGS: Settings = Settings { order: 0, address_size: 4 };
+/// Wordsizes that differ, and that no rule but 10 asks for.
+const SETTINGS: Settings =
+    Settings { order: 0, address_size: 4, wordsizes: Wordsizes { unique: 3, register: 1, ram: 8 } };
 
 /// Lengths that differ, so that a mistaken space is seen.
 const LENGTHS: Lengths = Lengths { unique: 16, register: 24, ram: 40 };
@@ -22,7 +24,8 @@ const BRANCHES: [&str; 3] = ["BRANCH", "CBRANCH", "CALL"];
 
 /// Compares a call and gives back its ending.
 fn ending(call: &VerdictCall) -> u64 {
-    check_verdict(call, LentWords { settings: 2, report: 6 }).expect("a report of five words")[0]
+    let lent = LentWords { report: 6, ..LentWords::EXACT };
+    check_verdict(call, lent).expect("a report of five words")[0]
 }
 
 /// Compares a list of these operations and gives back its ending.
@@ -136,7 +139,7 @@ fn every_mix_of_sizes_of_every_opcode() {
 /// Compares an operation at each address size.
 fn check_address_sizes(entry: Entry, tally: &mut Tally) {
     for address_size in SIZES {
-        let settings = Settings { order: 1, address_size };
+        let settings = Settings { order: 1, address_size, ..SETTINGS };
         let list = list_of(&[entry]);
         tally.count(ending(&VerdictCall { settings, lengths: LENGTHS, list }));
     }
@@ -318,7 +321,7 @@ fn settings_come_before_lengths_and_lengths_before_operations() {
     let too_long = Lengths { ram: 65_537, ..LENGTHS };
     for order in GOOD_AND_BAD_ORDERS {
         for address_size in GOOD_AND_BAD_SIZES {
-            let settings = Settings { order, address_size };
+            let settings = Settings { order, address_size, ..SETTINGS };
             let taken = order < 2 && SIZES.contains(&address_size);
             for lengths in [LENGTHS, too_long] {
                 for (list, list_ending) in lists_of_three_endings() {
@@ -335,6 +338,32 @@ fn settings_come_before_lengths_and_lengths_before_operations() {
         }
     }
     println!("verdict, settings: {tally}");
+}
+
+#[test]
+fn wordsizes_out_of_range_come_before_lengths_and_operations() {
+    let mut tally = Tally::default();
+    let numbers: Vec<u64> = SIZES.chain(BAD_WORDSIZES).collect();
+    let empty = Lengths { unique: 0, register: 0, ram: 0 };
+    let too_long = Lengths { unique: 65_537, ..LENGTHS };
+    let [good, short, malformed] = lists_of_three_endings().map(|(list, _)| list);
+    let calls = [(LENGTHS, good, 0), (empty, vec![], 0), (LENGTHS, malformed, 21)];
+    let calls = calls.into_iter().chain([(LENGTHS, short, 11), (too_long, vec![], 11)]);
+    for (lengths, list, ending_in_range) in calls {
+        let mut call = VerdictCall { settings: SETTINGS, lengths, list };
+        for &unique in &numbers {
+            for &register in &numbers {
+                for &ram in &numbers {
+                    let taken = [unique, register, ram].iter().all(|number| SIZES.contains(number));
+                    let expected = if taken { ending_in_range } else { 10 };
+                    call.settings.wordsizes = Wordsizes { unique, register, ram };
+                    assert_eq!(ending(&call), expected, "{call:x?}");
+                    tally.count(expected);
+                }
+            }
+        }
+    }
+    println!("verdict, wordsizes: {tally}");
 }
 
 #[test]
@@ -433,10 +462,10 @@ fn wrong_numbers_of_words_are_refused_and_long_reports_keep_their_further_words(
         for (list, _) in lists_of_three_endings() {
             let call = VerdictCall { settings, lengths: LENGTHS, list };
             for report in 0..=MOST_RESULT_WORDS as usize {
-                for settings in 0..=4 {
+                for settings in 0..=8 {
                     let lent = LentWords { settings, report };
                     let accepted = check_verdict(&call, lent).is_some();
-                    assert_eq!(accepted, settings == 2 && report >= 5);
+                    assert_eq!(accepted, settings == 5 && report >= 5);
                     agreed += 1;
                 }
             }

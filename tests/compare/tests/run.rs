@@ -1,6 +1,7 @@
 //! `undrelvoa_run`, `undrelvoa_labelled_run` and their steps, and the second program: random programs,
 //! secret bytes that must not show, runs that are resumed, and known results.
 
+use std::fmt;
 use std::iter::zip;
 
 use compare::agreement::Tally;
@@ -8,19 +9,25 @@ use compare::campaign::Campaign;
 use compare::programs::Programs;
 use compare::random::Random;
 use compare::runs::{check_run, interpreter_report, Case, Job};
+use compare::wordsizes::{only_a_wordsize_is_refused, Accesses, Event};
 use reference::answers::{LentWords, RunCall};
 use reference::machine::State;
 use reference::memory::{Spaces, SECRET};
 use reference::opcodes::OPERATIONS;
 use reference::run::{Program, BUDGET};
+use reference::varnode::Wordsizes;
 use reference::verdict::Settings;
 
-/// One program in twenty is lent too short a report, and one in twenty other settings than two words.
+/// One program in twenty is lent too short a report, and one in twenty other settings than five words.
 const RANDOM_RUNS: u64 = 500_000;
-const STEPPED_RUNS: u64 = 50_000;
+const STEPPED_RUNS: u64 = 52_000;
 const MEMORY_PAIRS: u64 = 100_000;
+/// How many pairs have wordsizes that are not all 1, and how many of them at least should come to a LOAD
+/// or a STORE with such a one.
+const WIDE_MEMORY_PAIRS: u64 = 120_000;
+const WIDE_PAIR_QUOTA: u64 = 50_000;
 /// How many runs are tried in parts, and how many of them at least should stop and be resumed.
-const RUNS_IN_PARTS: u64 = 140_000;
+const RUNS_IN_PARTS: u64 = 145_000;
 const RESUMED_RUNS: u64 = 50_000;
 
 /// How a plain run can end.
@@ -30,9 +37,13 @@ const LABELLED_ENDINGS: [u64; 17] =
     [0, 1, 2, 10, 11, 12, 21, 22, 23, 24, 25, 26, 27, 31, 32, 33, 34];
 const LEAK: u64 = 31;
 
-/// How often each ending should come, and each opcode be executed.
+/// How often each ending should come, SETTING by a wordsize alone, and each opcode be executed.
 const ENDING_QUOTA: u64 = 500;
+const WORDSIZE_QUOTA: u64 = 500;
 const OPCODE_QUOTA: u64 = 1_000;
+/// How many of the runs, and of the steps, of each kind should have wordsizes of 1.
+const BYTE_POINTER_QUOTA: u64 = 150_000;
+const BYTE_POINTER_STEP_QUOTA: u64 = 50_000;
 
 /// Plain and labelled runs are of the same programs.
 const RUN_SEED: u64 = 0x5eed_0041;
@@ -44,30 +55,64 @@ fn by_name(executed: &Tally) -> String {
     counts.join(", ")
 }
 
+/// How many of the runs or steps compared had wordsizes of 1, and how many ended with SETTING by a
+/// wordsize alone.
+#[derive(Default)]
+struct SettingsSeen {
+    byte_pointers: u64,
+    refused_wordsize: u64,
+}
+
+impl SettingsSeen {
+    fn count(&mut self, settings: &Settings) {
+        self.byte_pointers += u64::from(settings.wordsizes == Wordsizes::ONE);
+        self.refused_wordsize += u64::from(only_a_wordsize_is_refused(settings));
+    }
+
+    fn assert_quotas(&self, byte_pointers: u64) {
+        assert!(self.byte_pointers >= byte_pointers, "too few have byte pointers: {self}");
+        assert!(self.refused_wordsize >= WORDSIZE_QUOTA, "too few are refused: {self}");
+    }
+}
+
+impl fmt::Display for SettingsSeen {
+    fn fmt(&self, formatter: &mut fmt::Formatter) -> fmt::Result {
+        let SettingsSeen { byte_pointers, refused_wordsize } = self;
+        write!(
+            formatter,
+            "{byte_pointers} with wordsizes of 1, {refused_wordsize} SETTING by a wordsize"
+        )
+    }
+}
+
 /// Compares random runs in the form that `form` gives them.
 fn random_runs(name: &str, form: fn(&Case) -> Case, endings: &[u64]) {
     let mut campaign = Campaign::new(RUN_SEED, RANDOM_RUNS);
     let mut tally = Tally::default();
     let mut executed = Tally::default();
+    let mut settings = SettingsSeen::default();
     let mut refused = 0;
     for (_, random) in campaign.by_ref() {
         let mut programs = Programs::new(random);
         let Case { call, mut state } = form(&programs.case());
         let count = |opcode| executed.count(opcode as u64);
         let lent = programs.lent_words();
-        match check_run(Job::Run, &call, &mut state, lent, count) {
-            Some([ending, ..]) => tally.count(ending),
-            None => refused += 1,
-        }
+        let Some([ending, ..]) = check_run(Job::Run, &call, &mut state, lent, count) else {
+            refused += 1;
+            continue;
+        };
+        tally.count(ending);
+        settings.count(&call.program.settings);
     }
     println!(
-        "{name}, random programs: {campaign}, {tally}, {refused} refused for their words\n\
+        "{name}, random programs: {campaign}, {tally}, {settings}, {refused} refused for their words\n\
          {name}, operations executed: {}",
         by_name(&executed)
     );
     if campaign.is_whole() {
         tally.assert_numbers(endings);
         tally.assert_quota(endings, ENDING_QUOTA);
+        settings.assert_quotas(BYTE_POINTER_QUOTA);
         executed.assert_quota(&OPERATIONS.map(|operation| operation.number()), OPCODE_QUOTA);
     }
 }
@@ -83,7 +128,12 @@ fn random_labelled_runs() {
 }
 
 /// Steps through a program, from each ending by BUDGET on to the next.
-fn check_steps(mut case: Case, programs: &mut Programs, tally: &mut Tally) {
+fn check_steps(
+    mut case: Case,
+    programs: &mut Programs,
+    tally: &mut Tally,
+    settings: &mut SettingsSeen,
+) {
     const MOST_STEPS: u64 = 10;
     for _ in 0..MOST_STEPS {
         let lent = programs.lent_words();
@@ -91,6 +141,7 @@ fn check_steps(mut case: Case, programs: &mut Programs, tally: &mut Tally) {
         // A step that was refused for its words can be taken again.
         let Some([ending, index, ..]) = report else { continue };
         tally.count(ending);
+        settings.count(&case.call.program.settings);
         if ending != BUDGET {
             return;
         }
@@ -103,18 +154,23 @@ fn random_steps() {
     const SEED: u64 = 0x5eed_0042;
     let mut campaign = Campaign::new(SEED, STEPPED_RUNS);
     let mut plain = Tally::default();
+    let mut plain_settings = SettingsSeen::default();
     let mut labelled = Tally::default();
+    let mut labelled_settings = SettingsSeen::default();
     for (_, random) in campaign.by_ref() {
         let mut programs = Programs::new(random);
         let case = programs.case();
-        check_steps(case.plain(), &mut programs, &mut plain);
-        check_steps(case, &mut programs, &mut labelled);
+        check_steps(case.plain(), &mut programs, &mut plain, &mut plain_settings);
+        check_steps(case, &mut programs, &mut labelled, &mut labelled_settings);
     }
-    println!("step, {} random programs: {campaign}, {plain}", campaign.drawn());
-    println!("labelled step, {} random programs: {campaign}, {labelled}", campaign.drawn());
+    let count = campaign.drawn();
+    println!("step, {count} random programs: {campaign}, {plain}, {plain_settings}");
+    println!("labelled step, {count} random programs: {campaign}, {labelled}, {labelled_settings}");
     if campaign.is_whole() {
         plain.assert_numbers(&PLAIN_ENDINGS);
+        plain_settings.assert_quotas(BYTE_POINTER_STEP_QUOTA);
         labelled.assert_numbers(&LABELLED_ENDINGS);
+        labelled_settings.assert_quotas(BYTE_POINTER_STEP_QUOTA);
     }
 }
 
@@ -141,10 +197,10 @@ fn with_other_secrets(case: &Case, random: &mut Random) -> Case {
     other
 }
 
-/// A case and the same with other secret bytes, drawn until the two differ.
-fn memory_pair(programs: &mut Programs) -> [Case; 2] {
+/// A case that `draw` makes and the same with other secret bytes, drawn until the two differ.
+fn memory_pair(programs: &mut Programs, draw: fn(&mut Programs) -> Case) -> [Case; 2] {
     loop {
-        let one = programs.case();
+        let one = draw(programs);
         let other = with_other_secrets(&one, programs.random());
         if one.state.memory != other.state.memory {
             return [one, other];
@@ -172,23 +228,8 @@ fn secret_bytes_do_not_show() {
     let mut tally = Tally::default();
     let mut different_after = 0;
     for (_, random) in campaign.by_ref() {
-        let before = memory_pair(&mut Programs::new(random));
-        let [on_one, on_other] = &before;
-        let [mut one, mut other] = before.clone();
-        let report = interpreter_report(Job::Run, &mut one);
-        let other_report = interpreter_report(Job::Run, &mut other);
-        assert_eq!(report, other_report, "the reports on\n{on_one}and on\n{on_other}");
-        let log = written_log(&one.state, &report);
-        let other_log = written_log(&other.state, &report);
-        assert_eq!(log, other_log, "the log words of\n{on_one}and of\n{on_other}");
-        assert!(labels(&one) == labels(&other), "other labels after\n{on_one}and\n{on_other}");
-        assert!(
-            public_bytes_agree(&one.state.memory, &other.state.memory, labels(&one)),
-            "other public bytes after\n{on_one}and\n{on_other}"
-        );
-        for (before, after) in zip(&before, [&one, &other]) {
-            assert_plain_run_is_the_same(before, after, &report);
-        }
+        let pair = memory_pair(&mut Programs::new(random), Programs::case);
+        let ([one, other], report) = check_pair(&pair);
         tally.count(report[0]);
         different_after += u64::from(one.state.memory != other.state.memory);
     }
@@ -199,6 +240,51 @@ fn secret_bytes_do_not_show() {
     if campaign.is_whole() {
         tally.assert_numbers(&LABELLED_ENDINGS);
     }
+}
+
+#[test]
+fn secret_bytes_do_not_show_with_other_wordsizes_than_1() {
+    const SEED: u64 = 0x5eed_0045;
+    let mut campaign = Campaign::new(SEED, WIDE_MEMORY_PAIRS);
+    let mut tally = Tally::default();
+    let mut accesses = Accesses::default();
+    for (_, random) in campaign.by_ref() {
+        let pair = memory_pair(&mut Programs::new(random), Programs::access_case);
+        let ([one, _], report) = check_pair(&pair);
+        tally.count(report[0]);
+        accesses.count(&one, &report);
+    }
+    let [used, leaks] = [Event::Run, Event::Leak].map(|event| accesses.of(event));
+    println!(
+        "labelled run, pairs of memories with other secret bytes and wordsizes: {campaign}, {tally}, \
+         {used} used a wordsize other than 1, {leaks} LEAK at one"
+    );
+    if campaign.is_whole() {
+        accesses.assert_quota(Event::Run, WIDE_PAIR_QUOTA * campaign.times());
+        accesses.assert_quota(Event::Leak, ENDING_QUOTA);
+    }
+}
+
+/// Runs a case and the same with other secret bytes, and fails if a secret byte shows, or if the plain
+/// run does otherwise. Gives back both as they were left, and the report.
+fn check_pair(before: &[Case; 2]) -> ([Case; 2], [u64; 5]) {
+    let [on_one, on_other] = before;
+    let [mut one, mut other] = before.clone();
+    let report = interpreter_report(Job::Run, &mut one);
+    let other_report = interpreter_report(Job::Run, &mut other);
+    assert_eq!(report, other_report, "the reports on\n{on_one}and on\n{on_other}");
+    let log = written_log(&one.state, &report);
+    let other_log = written_log(&other.state, &report);
+    assert_eq!(log, other_log, "the log words of\n{on_one}and of\n{on_other}");
+    assert!(labels(&one) == labels(&other), "other labels after\n{on_one}and\n{on_other}");
+    assert!(
+        public_bytes_agree(&one.state.memory, &other.state.memory, labels(&one)),
+        "other public bytes after\n{on_one}and\n{on_other}"
+    );
+    for (before, after) in zip(before, [&one, &other]) {
+        assert_plain_run_is_the_same(before, after, &report);
+    }
+    ([one, other], report)
 }
 
 /// Fails unless the plain run does what the labelled run did, where that did not end with LEAK and
@@ -286,7 +372,7 @@ fn resumed_runs_are_one_run() {
 
 /// A plain case with 8-byte addresses, little byte order and a log of 4 words.
 fn plain_case(operations: &[[u64; 5]], start: u64, budget: u32, memory: Spaces) -> Case {
-    let settings = Settings { order: 0, address_size: 8 };
+    let settings = Settings { order: 0, address_size: 8, wordsizes: Wordsizes::ONE };
     let program = Program { settings, list: operations.concat() };
     let state = State { memory, labels: None, log: vec![7; 4] };
     Case { call: RunCall { program, start, budget }, state }
@@ -375,4 +461,29 @@ fn lists_of_4096_operations_run_and_of_4097_are_length() {
     assert_eq!(report(4_096), [0, 4_096, 4_096, 0, 0]);
     assert_eq!(report(4_097), [11, 0, 0, 0, 0]);
     println!("run, 4096 and 4097 operations: 2 agreed");
+}
+
+#[test]
+fn wrong_numbers_of_words_are_refused() {
+    let mut agreed = 0;
+    for order in [0, 2] {
+        let mut plain = plain_case(&[OVERLAPPING_COPY], 0, 9, unique_only(&[1, 2, 3, 4]));
+        plain.call.program.settings.order = order;
+        let mut labelled = plain.clone();
+        labelled.state.labels = Some(Spaces::of_lengths(&plain.state.memory.lengths()));
+        for (job, case) in
+            [Job::Run, Job::Step].into_iter().flat_map(|job| [(job, &plain), (job, &labelled)])
+        {
+            for settings in 0..=8 {
+                for report in 0..=8 {
+                    let lent = LentWords { settings, report };
+                    let answered =
+                        check_run(job, &case.call, &mut case.state.clone(), lent, |_| ());
+                    assert_eq!(answered.is_some(), settings == 5 && report >= 5);
+                    agreed += 1;
+                }
+            }
+        }
+    }
+    println!("run and step, numbers of words for settings and report: {agreed} agreed");
 }

@@ -6,10 +6,11 @@ use std::fmt;
 use compare::agreement::{check_verdict, Tally};
 use compare::campaign::Campaign;
 use compare::lists::{entry_at, good_entry, Generator};
+use compare::wordsizes::only_a_wordsize_is_refused;
 use reference::answers::{LentWords, VerdictCall};
 use reference::list::list_of;
 use reference::opcodes::{Operation, OPERATIONS};
-use reference::varnode::Lengths;
+use reference::varnode::{Lengths, Wordsizes};
 use reference::verdict::Settings;
 
 const RANDOM_LISTS: u64 = 500_000;
@@ -17,8 +18,10 @@ const WELL_FORMED_LISTS: u64 = 50_000;
 const ENDINGS: [u64; 9] = [0, 10, 11, 21, 22, 23, 24, 25, 26];
 const RULES: [u64; 6] = [21, 22, 23, 24, 25, 26];
 
-/// How often each ending should come, and each opcode with each rule that it can break.
+/// How often each ending should come, SETTING by a wordsize alone, and each opcode with each rule that
+/// it can break.
 const ENDING_QUOTA: u64 = 1_000;
+const WORDSIZE_QUOTA: u64 = 500;
 const OPCODE_QUOTA: u64 = 20;
 
 /// Whether an operation with a good opcode can break a rule.
@@ -127,6 +130,7 @@ fn random_lists() {
     let mut tally = Tally::default();
     let mut coverage = Coverage::new();
     let mut refused = 0;
+    let mut by_wordsize = 0;
     for (_, random) in campaign.by_ref() {
         let mut generator = Generator::new(random);
         let call = generator.call();
@@ -135,16 +139,19 @@ fn random_lists() {
             continue;
         };
         tally.count(report[0]);
+        by_wordsize += u64::from(only_a_wordsize_is_refused(&call.settings));
         coverage.count(&call.list, &report);
     }
     println!(
-        "verdict, random lists: {campaign}, {tally}, {refused} refused for their words\n\
+        "verdict, random lists: {campaign}, {tally}, {by_wordsize} of them SETTING by a wordsize, \
+         {refused} refused for their words\n\
          verdict, the operations of well-formed lists, and the malformed ones by rule:\n\
          {coverage}"
     );
     if campaign.is_whole() {
         tally.assert_quota(&ENDINGS, ENDING_QUOTA);
         tally.assert_numbers(&ENDINGS);
+        assert!(by_wordsize >= WORDSIZE_QUOTA, "{by_wordsize} were SETTING by a wordsize");
         let faults = coverage.faults();
         assert!(faults.is_empty(), "counts that should not be: {faults:#?}");
     }
@@ -152,7 +159,7 @@ fn random_lists() {
 
 /// Compares a list in these spaces and gives back its ending and index.
 fn judge(lengths: Lengths, list: Vec<u64>) -> [u64; 2] {
-    let settings = Settings { order: 0, address_size: 4 };
+    let settings = Settings { order: 0, address_size: 4, wordsizes: Wordsizes::ONE };
     let report = check_verdict(&VerdictCall { settings, lengths, list }, LentWords::EXACT);
     let [ending, index, executed, log_words, value] = report.expect("a report of five words");
     assert_eq!([executed, log_words, value], [0, 0, 0]);

@@ -137,7 +137,7 @@ fn is_case(block: &str) -> bool {
 mod tests {
     use super::*;
 
-    const SETTINGS: &str = "01000400000010000000100000001000000064";
+    const SETTINGS: &str = "01000400000010000000100000001000000064010101";
     const GOOD: [(&str, &str); 6] = [
         (
             "21",
@@ -165,7 +165,7 @@ mod tests {
         ),
     ];
 
-    const CASE: &str = "01000400000001000000000000000000000000\n0202000000005a\n";
+    const CASE: &str = "01000400000001000000000000000000000000010101\n0202000000005a\n";
     const PRINTED: &str = "0 0 0 0 0\n0202000000005a\n03020000000000\n";
 
     fn document() -> String {
@@ -226,7 +226,7 @@ mod tests {
     fn another_worked_case_is_reported() {
         let problems = |old: &str, new: &str| problems_of(&document().replacen(old, new, 1));
         let input = problems("005a\n", "005b\n");
-        assert!(input[0].ends_with("000000 prints another text"), "{input:?}");
+        assert!(input[0].ends_with("010101 prints another text"), "{input:?}");
         assert!(input[1].ends_with(WORKED[0]), "{input:?}");
         let output = problems("0 0 0 0 0\n0", "0 0 0 0 1\n0");
         assert!(output[1].ends_with(WORKED[1]), "{output:?}");

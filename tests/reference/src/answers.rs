@@ -52,8 +52,8 @@ pub struct LentWords {
 }
 
 impl LentWords {
-    /// Byte order and address size; five numbers of a report.
-    pub const EXACT: LentWords = LentWords { settings: 2, report: 5 };
+    /// Byte order, address size and three wordsizes; five numbers of a report.
+    pub const EXACT: LentWords = LentWords { settings: 5, report: 5 };
 
     /// Refuses settings of another number of words, and too short a report.
     fn check(self) -> Result<(), u64> {
@@ -169,6 +169,7 @@ fn range_within(place: &Place, len: usize) -> Option<Range<usize>> {
 mod tests {
     use super::*;
     use crate::memory::Spaces;
+    use crate::varnode::Wordsizes;
 
     /// INT_DIV at size 2, 100 by 7.
     const DIVISION: ValueCall = ValueCall {
@@ -256,23 +257,25 @@ mod tests {
 
     #[test]
     fn a_short_report_is_refused() {
-        let settings = Settings { order: 2, address_size: 9 };
+        let settings = Settings { order: 2, address_size: 9, wordsizes: Wordsizes::ONE };
         let lengths = Lengths { unique: 0, register: 0, ram: 0 };
         let call = VerdictCall { settings, lengths, list: vec![0; 3] };
-        assert_eq!(verdict_answer(&call, LentWords { settings: 2, report: 4 }), Err(11));
-        assert_eq!(verdict_answer(&call, LentWords { settings: 1, report: 5 }), Err(11));
-        assert_eq!(verdict_answer(&call, LentWords { settings: 3, report: 5 }), Err(11));
+        assert_eq!(verdict_answer(&call, LentWords { settings: 5, report: 4 }), Err(11));
+        for settings in [0, 1, 2, 3, 4, 6, 7, 10] {
+            assert_eq!(verdict_answer(&call, LentWords { settings, report: 5 }), Err(11));
+        }
         assert_eq!(verdict_answer(&call, LentWords::EXACT), Ok([10, 0, 0, 0, 0]));
     }
 
     #[test]
     fn a_run_with_a_short_report_or_other_settings_is_refused() {
-        let settings = Settings { order: 0, address_size: 8 };
+        let settings = Settings { order: 0, address_size: 8, wordsizes: Wordsizes::ONE };
         let copy = vec![0x11_21_01, 0, 9, 0, 0];
         let call = RunCall { program: Program { settings, list: copy }, start: 0, budget: 1 };
         let memory = Spaces { unique: vec![0], register: vec![], ram: vec![] };
         let mut state = State { memory, labels: None, log: vec![] };
-        for lent in [LentWords { settings: 2, report: 4 }, LentWords { settings: 3, report: 5 }] {
+        let lent = |settings, report| LentWords { settings, report };
+        for lent in [lent(5, 4), lent(2, 5), lent(4, 5), lent(6, 5)] {
             assert_eq!(run_answer(&call, &mut state, lent, |_| ()), Err(11));
             assert_eq!(state.memory.unique, [0]);
         }

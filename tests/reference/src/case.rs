@@ -4,7 +4,7 @@ use crate::list::WORDS_PER_OPERATION;
 use crate::machine::State;
 use crate::memory::Spaces;
 use crate::run::{run, Program};
-use crate::varnode::{Lengths, Varnode, RAM, REGISTER, UNIQUE};
+use crate::varnode::{Lengths, Varnode, Wordsizes, RAM, REGISTER, UNIQUE};
 use crate::verdict::Settings;
 
 /// The most operations of a case.
@@ -58,8 +58,18 @@ impl Case {
 
     /// The case that a 01 line begins: memory is zero, and public.
     fn of_settings(frame: &[u8]) -> Option<Case> {
-        let [SETTINGS_FRAME, order, address_size, numbers @ ..] = frame else {
+        let [SETTINGS_FRAME, order, address_size, numbers @ .., unique, register, ram] = frame
+        else {
             return None;
+        };
+        let settings = Settings {
+            order: u64::from(*order),
+            address_size: u64::from(*address_size),
+            wordsizes: Wordsizes {
+                unique: u64::from(*unique),
+                register: u64::from(*register),
+                ram: u64::from(*ram),
+            },
         };
         let (numbers, []) = numbers.as_chunks::<4>() else {
             return None;
@@ -70,8 +80,6 @@ impl Case {
         let [unique, register, ram] = [unique, register, ram].map(length);
         let lengths = Lengths { unique: unique?, register: register?, ram: ram? };
         let zeros = Spaces::of_lengths(&lengths);
-        let settings =
-            Settings { order: u64::from(*order), address_size: u64::from(*address_size) };
         Some(Case {
             program: Program { settings, list: Vec::new() },
             budget: u32::from_be_bytes(budget),
@@ -169,8 +177,9 @@ fn lines_of(kind: u8, spaces: &Spaces) -> String {
 mod tests {
     use super::*;
 
-    /// Little byte order, A = 4, a unique space of 4 bytes, a register space of 2, no ram, budget 9.
-    const SETTINGS: &str = "01000400000004000000020000000000000009\n";
+    /// Little byte order, A = 4, a unique space of 4 bytes, a register space of 2, no ram, budget 9,
+    /// each wordsize 1.
+    const SETTINGS: &str = "01000400000004000000020000000000000009010101\n";
     /// COPY of the constant 5 to the first byte of unique.
     const COPY: &str =
         "0400000000001121010000000000000000000000000000000500000000000000000000000000000000\n";
@@ -197,7 +206,7 @@ mod tests {
     #[test]
     fn the_worked_example() {
         let text = "\
-01000400000010000000100000001000000064
+01000400000010000000100000001000000064010101
 0203000000000d000000
 0204000000055a
 03040000000501
@@ -221,17 +230,24 @@ mod tests {
     #[test]
     fn a_first_line_alone_is_a_case() {
         assert_eq!(printed(SETTINGS), "0 0 0 0 0\n".to_string() + ZEROS);
-        assert_eq!(printed("01000400000000000000000000000000000000\n"), "0 0 0 0 0\n");
+        assert_eq!(printed("01000400000000000000000000000000000000010101\n"), "0 0 0 0 0\n");
     }
 
     #[test]
     fn the_first_line_is_a_01_line_and_no_other_is() {
-        for text in ["", "\n", "0", &SETTINGS[..38], COPY, "0101\n"] {
+        for text in ["", "\n", "0", &SETTINGS[..44], COPY, "0101\n"] {
             assert_eq!(printed(text), "41 1 0 0 0\n");
         }
         assert!(is_bad(SETTINGS));
-        let longer = SETTINGS.replace('\n', "00\n");
-        assert_eq!(printed(&longer), "41 1 0 0 0\n");
+    }
+
+    #[test]
+    fn the_first_line_has_22_bytes() {
+        for digits in (0..44).chain(45..60) {
+            let line: String =
+                SETTINGS.trim().chars().chain("01".repeat(8).chars()).take(digits).collect();
+            assert_eq!(printed(&(line + "\n")), "41 1 0 0 0\n", "{digits} digits");
+        }
     }
 
     #[test]
@@ -255,9 +271,30 @@ mod tests {
             let text = SETTINGS.replacen("0004", settings, 1) + COPY;
             assert_eq!(printed(&text), "10 0 0 0 0\n".to_string() + ZEROS);
         }
+        // Ram is empty.
+        for wordsizes in ["000101", "010901", "010109", "010100", "ffffff"] {
+            let text = SETTINGS.replace("010101", wordsizes) + COPY;
+            assert_eq!(printed(&text), "10 0 0 0 0\n".to_string() + ZEROS);
+        }
         let labelled = ZEROS.replace("03020000000000", "03020000000002");
         let expected = "12 0 0 0 0\n".to_string() + &labelled;
         assert_eq!(printed_after_settings("03020000000002\n"), expected);
+    }
+
+    #[test]
+    fn the_last_three_bytes_are_the_wordsizes_of_unique_register_and_ram() {
+        // A LOAD of 1 byte to the start of unique with the pointer 2, from each space of 16 bytes.
+        for (space, offset) in [(2, "06"), (3, "08"), (4, "0a")] {
+            let numbered = "000102030405060708090a0b0c0d0e0f";
+            let text = format!(
+                "01000400000010000000100000001000000009030405\n\
+                 020200000000{numbered}\n020300000000{numbered}\n020400000000{numbered}\n\
+                 0400000000141121020000000000000000{space:016x}00000000000000020000000000000000\n"
+            );
+            let printed = printed(&text);
+            let expected = format!("0 1 1 1 0\n00000000000000{offset}\n020200000000{offset}");
+            assert!(printed.starts_with(&expected), "{printed}");
+        }
     }
 
     #[test]
@@ -315,7 +352,7 @@ mod tests {
 
     #[test]
     fn a_line_brings_up_to_32_bytes() {
-        let settings = "01000400000040000000000000000000000000\n";
+        let settings = "01000400000040000000000000000000000000010101\n";
         let line = |count: usize| format!("{settings}020200000020{}\n", "11".repeat(count));
         let zeros = "00".repeat(16);
         let ones = "11".repeat(16);

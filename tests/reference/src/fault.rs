@@ -1,6 +1,6 @@
 //! The numbers of the faults: what a call refuses, and what stops a run.
 
-/// A byte order that is neither 0 nor 1, or an address size that is not 1 to 8.
+/// A byte order that is neither 0 nor 1, or an address size or a wordsize that is not 1 to 8.
 pub const SETTING: u64 = 10;
 /// A lent buffer that is too short to hold the result, or a list or a space of a wrong length.
 pub const LENGTH: u64 = 11;
@@ -22,7 +22,7 @@ pub const TARGET: u64 = 26;
 pub const START: u64 = 27;
 /// A secret byte where only public ones may decide.
 pub const LEAK: u64 = 31;
-/// A LOAD or a STORE of bytes beyond the end of their space.
+/// A LOAD or a STORE of bytes beyond the end of their space, by the pointer times the wordsize.
 pub const BOUNDS: u64 = 32;
 /// A divisor of 0.
 pub const ZERO: u64 = 33;

@@ -7,7 +7,7 @@ use crate::fault;
 use crate::list::{Entry, WORDS_PER_OPERATION};
 use crate::memory::{is_secret, value_of, Spaces, PUBLIC, SECRET};
 use crate::opcodes::{Opcode, Operation};
-use crate::varnode::{Varnode, CONSTANT};
+use crate::varnode::{Varnode, Wordsizes, CONSTANT};
 use crate::verdict::{decoded, Varnodes};
 
 /// What a run is lent to read and write. A plain run has no labels.
@@ -30,6 +30,7 @@ pub enum Next {
 /// A list while it runs.
 pub struct Machine<'a> {
     order: ByteOrder,
+    wordsizes: Wordsizes,
     operations: &'a [[u64; WORDS_PER_OPERATION]],
     state: &'a mut State,
     log_words: usize,
@@ -39,10 +40,11 @@ impl<'a> Machine<'a> {
     /// A machine for a well-formed list, with an empty log.
     pub fn new(
         order: ByteOrder,
+        wordsizes: Wordsizes,
         operations: &'a [[u64; WORDS_PER_OPERATION]],
         state: &'a mut State,
     ) -> Machine<'a> {
-        Machine { order, operations, state, log_words: 0 }
+        Machine { order, wordsizes, operations, state, log_words: 0 }
     }
 
     /// How many operations the list has.
@@ -102,21 +104,28 @@ impl<'a> Machine<'a> {
         instruction.must_be_public().is_some_and(|varnode| is_secret(labels, &varnode))
     }
 
-    /// The bytes that a LOAD reads or a STORE writes, which may be beyond the end of their space.
-    fn pointed_to(&self, instruction: &Instruction) -> Option<Varnode> {
-        let size = match instruction.operation.opcode {
-            Opcode::Load => instruction.output().size,
-            Opcode::Store => instruction.input2().size,
-            _ => return None,
-        };
-        let offset = self.value(&instruction.input1());
-        Some(Varnode { space: instruction.varnodes.input0.offset, offset, size })
+    /// The byte offset of a LOAD or a STORE: the pointer times the wordsize of the space that input0
+    /// names. It is a whole number, which 64 bits need not hold.
+    fn byte_offset(&self, instruction: &Instruction) -> u128 {
+        let pointer = self.value(&instruction.input1());
+        let wordsize = self.wordsizes.of(instruction.varnodes.input0.offset);
+        u128::from(pointer) * u128::from(wordsize.expect("rule 23 names a lent space"))
     }
 
-    /// The sum of pointer and size does not wrap.
+    /// The sum of byte offset and size does not wrap.
     fn is_in_bounds(&self, instruction: &Instruction) -> bool {
         let lengths = self.state.memory.lengths();
-        self.pointed_to(instruction).is_none_or(|place| lengths.contain(&place))
+        let space = instruction.varnodes.input0.offset;
+        instruction
+            .pointed_to_size()
+            .is_none_or(|size| lengths.contain_bytes(space, self.byte_offset(instruction), size))
+    }
+
+    /// The bytes that a LOAD reads or a STORE writes, where it is in bounds.
+    fn pointed_to(&self, instruction: &Instruction) -> Option<Varnode> {
+        let size = instruction.pointed_to_size()?;
+        let offset = u64::try_from(self.byte_offset(instruction)).expect("an offset in bounds");
+        Some(Varnode { space: instruction.varnodes.input0.offset, offset, size })
     }
 
     fn divides_by_zero(&self, instruction: &Instruction) -> bool {
@@ -225,6 +234,15 @@ impl Instruction {
 
     fn input2(&self) -> Varnode {
         self.varnodes.input2.expect("rule 22 gives this operation an input2")
+    }
+
+    /// How many bytes a LOAD reads or a STORE writes through its pointer.
+    fn pointed_to_size(&self) -> Option<u64> {
+        match self.operation.opcode {
+            Opcode::Load => Some(self.output().size),
+            Opcode::Store => Some(self.input2().size),
+            _ => None,
+        }
     }
 
     /// The varnode that LEAK looks at: a pointer, a condition, an indirect destination or a divisor.

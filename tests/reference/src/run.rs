@@ -48,9 +48,10 @@ pub fn observed_run(
     if let Some(report) = refusal(program, start, state) {
         return report;
     }
-    let order = ByteOrder::with_number(program.settings.order).expect("the settings hold");
+    let Settings { order, wordsizes, .. } = program.settings;
+    let order = ByteOrder::with_number(order).expect("the settings hold");
     let (operations, _) = program.list.as_chunks::<WORDS_PER_OPERATION>();
-    let mut machine = Machine::new(order, operations, state);
+    let mut machine = Machine::new(order, wordsizes, operations, state);
     let mut index = start as usize;
     let mut executed = 0;
     let (ending, value) = loop {
@@ -119,6 +120,7 @@ fn labels_hold(state: &State) -> bool {
 mod tests {
     use super::*;
     use crate::list::tests::CASE;
+    use crate::varnode::Wordsizes;
     use crate::verdict::{LONGEST_SPACE, MOST_OPERATIONS};
 
     const LITTLE: u64 = 0;
@@ -137,9 +139,16 @@ mod tests {
     /// BRANCH to itself.
     const FOREVER: [u64; 5] = [0x11_00_04, 0, 0, 0, 0];
 
-    /// A program with 8-byte addresses.
+    /// A program with 8-byte addresses that count bytes.
     fn program(order: u64, operations: &[[u64; 5]]) -> Program {
-        Program { settings: Settings { order, address_size: 8 }, list: operations.concat() }
+        let settings = Settings { order, address_size: 8, wordsizes: Wordsizes::ONE };
+        Program { settings, list: operations.concat() }
+    }
+
+    /// The same program with other wordsizes.
+    fn with_wordsizes(mut program: Program, unique: u64, register: u64, ram: u64) -> Program {
+        program.settings.wordsizes = Wordsizes { unique, register, ram };
+        program
     }
 
     /// A state without labels, and a log of 4 words.
@@ -166,7 +175,7 @@ mod tests {
         state.memory.ram[5] = 0x5a;
         labels(&mut state).ram[5] = SECRET;
         state.log = vec![0; 1_024];
-        let settings = Settings { order: LITTLE, address_size: 4 };
+        let settings = Settings { order: LITTLE, address_size: 4, wordsizes: Wordsizes::ONE };
         let report = run(&Program { settings, list: CASE.concat() }, 0, 100, &mut state);
         assert_eq!(report.numbers(), [0, 3, 3, 1, 0]);
         assert_eq!(state.log[..2], [0x0000000100000005, 0]);
@@ -198,6 +207,107 @@ mod tests {
                 assert_eq!(report.numbers(), [ending, 0, 0, 0, 0]);
                 assert_eq!(after, before);
             }
+        }
+    }
+
+    #[test]
+    fn a_load_reads_at_the_pointer_times_the_wordsize() {
+        let ram: Vec<u8> = (0..16).collect();
+        for wordsize in 1..=8 {
+            // Of 4 bytes, 12 is the last byte offset.
+            let last = 12 / wordsize;
+            for pointer in 0..20 {
+                let before = state(&[0xee; 4], &u64::to_le_bytes(pointer), &ram);
+                let mut after = before.clone();
+                let program = with_wordsizes(program(LITTLE, &[LOAD]), 5, 3, wordsize);
+                let report = run(&program, 0, 9, &mut after).numbers();
+                if pointer <= last {
+                    let offset = pointer * wordsize;
+                    let first = offset as u8;
+                    assert_eq!(report, [END, 1, 1, 1, 0]);
+                    assert_eq!(after.memory.unique, [first, first + 1, first + 2, first + 3]);
+                    assert_eq!(after.log, [offset, 7, 7, 7]);
+                } else {
+                    assert_eq!(report, [fault::BOUNDS, 0, 0, 0, 0]);
+                    assert_eq!(after, before);
+                }
+            }
+        }
+    }
+
+    #[test]
+    fn the_product_of_pointer_and_wordsize_does_not_wrap() {
+        // Each product is 2^64 or a little more, which would be in bounds if it wrapped.
+        for (wordsize, pointer) in [
+            (8, 1 << 61),
+            (4, 1 << 62),
+            (2, 1 << 63),
+            (3, u64::MAX / 3 + 1),
+            (5, u64::MAX / 5 + 1),
+            (6, u64::MAX / 6 + 1),
+            (7, u64::MAX / 7 + 1),
+        ] {
+            assert!(pointer.wrapping_mul(wordsize) < 12);
+            for operation in [LOAD, STORE] {
+                let before = labelled(state(&[1; 4], &u64::to_le_bytes(pointer), &[0; 16]));
+                let mut after = before.clone();
+                let program = with_wordsizes(program(LITTLE, &[operation]), 1, 1, wordsize);
+                assert_eq!(run(&program, 0, 9, &mut after).numbers(), [fault::BOUNDS, 0, 0, 0, 0]);
+                assert_eq!(after, before);
+            }
+        }
+    }
+
+    #[test]
+    fn a_store_writes_bytes_and_labels_at_the_pointer_times_the_wordsize() {
+        let mut state = labelled(state(&[5; 4], &[2, 0, 0, 0, 0, 0, 0, 0], &[0; 8]));
+        labels(&mut state).unique[0] = SECRET;
+        let program = with_wordsizes(program(LITTLE, &[STORE]), 8, 8, 3);
+        assert_eq!(run(&program, 0, 9, &mut state).numbers(), [END, 1, 1, 1, 0]);
+        assert_eq!(state.memory.ram, [0, 0, 0, 0, 0, 0, 5, 0]);
+        assert_eq!(labels(&mut state).ram, [0, 0, 0, 0, 0, 0, SECRET, 0]);
+        assert_eq!(state.log, [6, 7, 7, 7]);
+    }
+
+    #[test]
+    fn the_wordsize_is_that_of_the_space_that_input0_names() {
+        let bytes: Vec<u8> = (0..16).collect();
+        for (space, offset) in [(2, 6), (3, 8), (4, 10)] {
+            // LOAD of 1 byte to the end of ram, with the pointer 2.
+            let load = [0x18_11_41_02, 15, space, 2, 0];
+            let mut state = state(&bytes, &bytes, &bytes);
+            let program = with_wordsizes(program(BIG, &[load]), 3, 4, 5);
+            assert_eq!(run(&program, 0, 9, &mut state).numbers(), [END, 1, 1, 1, 0]);
+            assert_eq!(state.memory.ram[15], offset);
+            assert_eq!(state.log[0], u64::from(offset));
+        }
+    }
+
+    #[test]
+    fn a_secret_pointer_leaks_before_it_is_multiplied() {
+        for pointer in [0, 1, u64::MAX] {
+            let mut before = labelled(state(&[0; 4], &u64::to_le_bytes(pointer), &[0; 16]));
+            labels(&mut before).register[0] = SECRET;
+            for operation in [LOAD, STORE] {
+                let mut after = before.clone();
+                let program = with_wordsizes(program(LITTLE, &[operation]), 1, 1, 8);
+                assert_eq!(run(&program, 0, 9, &mut after).numbers(), [fault::LEAK, 0, 0, 0, 0]);
+                assert_eq!(after, before);
+            }
+        }
+    }
+
+    #[test]
+    fn a_wordsize_changes_no_varnode_and_no_destination() {
+        let bytes: Vec<u8> = (0..16).collect();
+        let copy = [0x44_34_01, 3, 5, 0, 0];
+        for operation in [copy, [0x41_00_04, 0, 6, 0, 0], [0x34_00_06, 0, 4, 0, 0], FOREVER] {
+            let mut program = program(LITTLE, &[operation]);
+            program.settings.address_size = 4;
+            let [mut narrow, mut wide] = [(); 2].map(|()| state(&bytes, &bytes, &bytes));
+            let report = run(&program, 0, 3, &mut narrow);
+            assert_eq!(run(&with_wordsizes(program, 2, 3, 8), 0, 3, &mut wide), report);
+            assert_eq!(narrow, wide);
         }
     }
 
@@ -250,6 +360,10 @@ mod tests {
         };
         assert_eq!(refused(&program, &state), fault::SETTING);
         program.settings.order = BIG;
+        // Ram is empty.
+        program.settings.wordsizes.ram = 9;
+        assert_eq!(refused(&program, &state), fault::SETTING);
+        program.settings.wordsizes.ram = 8;
         assert_eq!(refused(&program, &state), fault::LENGTH);
         labels(&mut state).unique = vec![0, 1, 2, 3];
         assert_eq!(refused(&program, &state), fault::LABEL);

@@ -33,10 +33,44 @@ impl Lengths {
         }
     }
 
-    /// Whether all bytes of a varnode are in its space, a lent one. The sum does not wrap.
+    /// Whether all bytes of a varnode are in its space, a lent one.
     pub fn contain(&self, varnode: &Varnode) -> bool {
-        let end = u128::from(varnode.offset) + u128::from(varnode.size);
-        self.of(varnode.space).is_some_and(|len| end <= u128::from(len))
+        self.contain_bytes(varnode.space, u128::from(varnode.offset), varnode.size)
+    }
+
+    /// Whether a lent space has `size` bytes from a byte offset on. The sum does not wrap.
+    pub fn contain_bytes(&self, space: u64, byte_offset: u128, size: u64) -> bool {
+        let end = byte_offset + u128::from(size);
+        self.of(space).is_some_and(|len| end <= u128::from(len))
+    }
+}
+
+/// How many bytes the addressable unit of each lent space has, of any numbers. Only the pointers of
+/// LOAD and STORE count in such units; all offsets are bytes.
+#[derive(Clone, Copy, Debug, PartialEq, Eq)]
+pub struct Wordsizes {
+    pub unique: u64,
+    pub register: u64,
+    pub ram: u64,
+}
+
+impl Wordsizes {
+    /// Pointers that are byte offsets.
+    pub const ONE: Wordsizes = Wordsizes { unique: 1, register: 1, ram: 1 };
+
+    /// The wordsize of a space, if it is a lent one.
+    pub fn of(&self, space: u64) -> Option<u64> {
+        match space {
+            UNIQUE => Some(self.unique),
+            REGISTER => Some(self.register),
+            RAM => Some(self.ram),
+            _ => None,
+        }
+    }
+
+    /// The wordsizes in the order of the spaces' numbers.
+    pub fn all(&self) -> [u64; 3] {
+        [self.unique, self.register, self.ram]
     }
 }
 
@@ -80,6 +114,25 @@ mod tests {
         for offset in [u64::MAX, u64::MAX - 3, u64::MAX - 7] {
             assert!(!shows(RAM, offset, 4));
             assert!(!shows(RAM, offset, 8));
+        }
+    }
+
+    #[test]
+    fn bytes_past_2_to_64_are_in_no_space() {
+        for low in [0, 1, 8] {
+            assert!(LENGTHS.contain_bytes(RAM, low, 4));
+            assert!(!LENGTHS.contain_bytes(RAM, (1 << 64) + low, 4));
+            assert!(!LENGTHS.contain_bytes(RAM, (7 << 64) + low, 4));
+        }
+    }
+
+    #[test]
+    fn only_lent_spaces_have_a_wordsize() {
+        let wordsizes = Wordsizes { unique: 2, register: 3, ram: 4 };
+        assert_eq!([UNIQUE, REGISTER, RAM].map(|space| wordsizes.of(space)), [2, 3, 4].map(Some));
+        assert_eq!(wordsizes.all(), [2, 3, 4]);
+        for space in [0, CONSTANT, 5, 256 + REGISTER, u64::MAX] {
+            assert_eq!(wordsizes.of(space), None);
         }
     }
 

@@ -5,7 +5,9 @@ use crate::bytes::ByteOrder;
 use crate::fault;
 use crate::list::{varnode, Entry, WORDS_PER_OPERATION};
 use crate::opcodes::{Opcode, Operation, Sizes};
-use crate::varnode::{is_operand_size, Lengths, Varnode, CONSTANT, RAM, REGISTER, UNIQUE};
+use crate::varnode::{
+    is_operand_size, Lengths, Varnode, Wordsizes, CONSTANT, RAM, REGISTER, UNIQUE,
+};
 
 /// The ending of a list that keeps every rule.
 pub const END: u64 = 0;
@@ -14,11 +16,12 @@ pub const MOST_OPERATIONS: usize = 4_096;
 /// The most bytes of a space.
 pub const LONGEST_SPACE: u64 = 65_536;
 
-/// The byte order and the address size, of any numbers.
+/// The byte order, the address size and the wordsizes, of any numbers.
 #[derive(Clone, Copy, Debug, PartialEq, Eq)]
 pub struct Settings {
     pub order: u64,
     pub address_size: u64,
+    pub wordsizes: Wordsizes,
 }
 
 /// The five numbers of a report.
@@ -65,9 +68,11 @@ pub fn verdict(settings: &Settings, lengths: &Lengths, list: &[u64]) -> Report {
     Report::before_a_run(END, operations.len())
 }
 
-/// Rule 10 SETTING.
+/// Rule 10 SETTING. A wordsize counts also where its space is empty.
 pub(crate) fn settings_hold(settings: &Settings) -> bool {
-    ByteOrder::with_number(settings.order).is_some() && (1..=8).contains(&settings.address_size)
+    ByteOrder::with_number(settings.order).is_some()
+        && (1..=8).contains(&settings.address_size)
+        && settings.wordsizes.all().iter().all(|wordsize| (1..=8).contains(wordsize))
 }
 
 /// Rule 11 LENGTH.
@@ -206,7 +211,7 @@ mod tests {
     use super::*;
     use crate::list::tests::CASE;
 
-    const SETTINGS: Settings = Settings { order: 0, address_size: 4 };
+    const SETTINGS: Settings = Settings { order: 0, address_size: 4, wordsizes: Wordsizes::ONE };
     const LENGTHS: Lengths = Lengths { unique: 8, register: 16, ram: 32 };
 
     /// COPY of 4 bytes from the start of register to the start of unique.
@@ -276,9 +281,60 @@ mod tests {
     fn setting_comes_before_length() {
         let long = Lengths { ram: 65_537, ..LENGTHS };
         for (order, address_size) in [(2, 4), (u64::MAX, 4), (0, 0), (1, 9), (1, u64::MAX)] {
-            let settings = Settings { order, address_size };
+            let settings = Settings { order, address_size, ..SETTINGS };
             assert_eq!(verdict(&settings, &LENGTHS, &COPY).ending, 10);
             assert_eq!(verdict(&settings, &long, &COPY[..4]).ending, 10);
+        }
+    }
+
+    #[test]
+    fn a_wordsize_is_1_to_8_also_of_an_empty_space() {
+        let empty = Lengths { unique: 0, register: 0, ram: 0 };
+        let ending = |wordsizes, lengths: &Lengths, list: &[u64]| {
+            verdict(&Settings { wordsizes, ..SETTINGS }, lengths, list).numbers()
+        };
+        for wordsize in 1..=8 {
+            for wordsizes in each_space(wordsize) {
+                assert_eq!(ending(wordsizes, &LENGTHS, &LOAD), [END, 1, 0, 0, 0]);
+                assert_eq!(ending(wordsizes, &empty, &[]), [END, 0, 0, 0, 0]);
+            }
+        }
+        for wordsize in [0, 9, 255, 257, 1 << 63, u64::MAX] {
+            for wordsizes in each_space(wordsize) {
+                assert_eq!(ending(wordsizes, &LENGTHS, &LOAD), [10, 0, 0, 0, 0]);
+                assert_eq!(ending(wordsizes, &empty, &[]), [10, 0, 0, 0, 0]);
+                assert_eq!(ending(wordsizes, &LENGTHS, &LOAD[..4]), [10, 0, 0, 0, 0]);
+            }
+        }
+    }
+
+    /// The wordsizes of which one space's in turn is this, and the others' are 1.
+    fn each_space(wordsize: u64) -> [Wordsizes; 3] {
+        let one = Wordsizes::ONE;
+        [
+            Wordsizes { unique: wordsize, ..one },
+            Wordsizes { register: wordsize, ..one },
+            Wordsizes { ram: wordsize, ..one },
+        ]
+    }
+
+    #[test]
+    fn a_wordsize_changes_no_rule_of_an_operation() {
+        // Offsets of varnodes and of branches stay as they are.
+        let wide = Settings { wordsizes: Wordsizes { unique: 8, register: 7, ram: 6 }, ..SETTINGS };
+        let samples = [
+            with(COPY, 2, 12),
+            with(COPY, 2, 13),
+            with(COPY, 1, 4),
+            with(COPY, 1, 5),
+            with(LOAD, 3, 12),
+            with(LOAD, 3, 13),
+            with(STORE, 3, 1 << 31),
+            with(BRANCH, 2, 1),
+            with(BRANCH, 2, 2),
+        ];
+        for words in samples {
+            assert_eq!(verdict(&wide, &LENGTHS, &words), verdict(&SETTINGS, &LENGTHS, &words));
         }
     }
 

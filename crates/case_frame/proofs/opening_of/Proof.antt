@@ -12,26 +12,30 @@ returns : tie.Need-returns
 unfolding openingOf
 returns c = rw (ne-eqb _ _ (c .if1 .taken))
 
-cast-t12 : tie.Need-cast-t12
-cast-t12 c =
-    let at-number2 = c .before .before .before .before in
-    let start′ = at-number2 .before .before .before .before in
-    let start = start′ in
-    record { fits = omega (arith, c .number6 .ensures, number-fits (start .args .s .now) budgetColumn numberDigits) }
+cast-t16 : tie.Need-cast-t16
+cast-t16 c =
+    let at-6 = c .before .before .before in
+    let at-2 = at-6 .before .before .before .before in
+    let start = at-2 .before .before .before .before in
+    record { fits = omega (arith, at-6 .number6 .ensures, number-fits (start .args .s .now) budgetColumn numberDigits) }
 
 returns-2 : tie.Need-returns-2
 unfolding openingOf
 returns-2 c =
-    let at-3 = c .before .before .before in
+    let at-6 = c .before .before .before in
+    let at-3 = at-6 .before .before .before in
     let at-1 = at-3 .before .before in
     rw (
       eq-eqb _ _ (at-1 .before .if1 .left),
       at-1 .number .ensures,
       at-3 .before .number2 .ensures,
       at-3 .number3 .ensures,
-      c .before .before .number4 .ensures,
-      c .before .number5 .ensures,
-      c .number6 .ensures,
+      at-6 .before .before .number4 .ensures,
+      at-6 .before .number5 .ensures,
+      at-6 .number6 .ensures,
+      c .before .before .number7 .ensures,
+      c .before .number8 .ensures,
+      c .number9 .ensures,
     )
 
 pub opening-of-spec : {M : Type 1} → statement M
@@ -45,5 +49,8 @@ opening-of-spec =
     (λ c κs. search needs)
     (λ c κs. search needs)
     (λ c κs. search needs)
-    cast-t12
+    (λ c κs. search needs)
+    (λ c κs. search needs)
+    (λ c κs. search needs)
+    cast-t16
     returns-2)

@@ -80,7 +80,7 @@ loop-holds c =
     let at-shared-slice-known = at-slice-known .before in
     let entry = at-shared-slice-known .before in (
       c .operation-count .ensures,
-      begun _ _ _ _ _ _ (λ j. at-shared-slice-known .shared-slice-known .given j .fits) (entry .pre .0) (entry .pre .1)
+      begun _ _ _ _ _ _ (entry .pre .3) (λ j. at-shared-slice-known .shared-slice-known .given j .fits) (entry .pre .0) (entry .pre .1)
           (of-bytes _ _ _ (λ j. at-slice-known .slice-known .given j .fits) (λ j. at-slice-known2 .slice-known2 .given j .fits)
           (λ j. at-slice-known3 .slice-known3 .given j .fits)) (entry .pre .2),
     )

@@ -6,8 +6,8 @@ use borrow.Author.Needs.{needs}
 use Rattle.run_labelled.proofs.mark_after.Statement.{statement}
 use Rattle.run_labelled.proofs.mark_after.Tie as tie
 
-pointer-at-requires : tie.Need-pointer-at-requires
-pointer-at-requires c κs =
+logged-offset-requires : tie.Need-logged-offset-requires
+logged-offset-requires c κs =
     let at-slice-known = c .before .before .before .before in
     let entry = at-slice-known .before .before in
     let h = entry .pre (c .if1 .taken) in
@@ -25,24 +25,24 @@ becomes-secret-requires : tie.Need-becomes-secret-requires
 becomes-secret-requires c κs =
     let within2 = c .before .before .before in
     let at-target-at = within2 .before .before in
-    let at-pointer-at = at-target-at .before in
-    let within1 = at-pointer-at .before in
+    let at-logged-offset = at-target-at .before in
+    let within1 = at-logged-offset .before in
     let at-slice-known = within1 .before .before .before .before in
     let entry = at-slice-known .before .before in
     let h = entry .pre (within1 .if1 .taken) in
-    rw (at-pointer-at .pointer-at .ensures) (h .readable (λ z. within2 .if2 .taken (nowhere-found _ _ _ (at-pointer-at .pointer-at .ensures) _ (at-target-at .target-at .ensures) z)))
+    rw (at-logged-offset .logged-offset .ensures) (h .readable (λ z. within2 .if2 .taken (nowhere-found _ _ _ (at-logged-offset .logged-offset .ensures) _ (at-target-at .target-at .ensures) z)))
 
 mark-requires : tie.Need-mark-requires
 mark-requires c κs =
     let at-becomes-secret-arg3 = c .before .before .before .before in
     let at-struct-known = at-becomes-secret-arg3 .before .before .before .before in
     let at-target-at = at-struct-known .before in
-    let at-pointer-at = at-target-at .before in
-    let within1 = at-pointer-at .before in
+    let at-logged-offset = at-target-at .before in
+    let within1 = at-logged-offset .before in
     let at-slice-known = within1 .before .before .before .before in
     let entry = at-slice-known .before .before in
     let h = entry .pre (within1 .if1 .taken) in
-    rw (at-target-at .target-at .ensures, at-pointer-at .pointer-at .ensures) (h .placed)
+    rw (at-target-at .target-at .ensures, at-logged-offset .logged-offset .ensures) (h .placed)
 
 returns : tie.Need-returns
 returns c =
@@ -51,19 +51,19 @@ returns c =
     let at-becomes-secret = at-mark .before .before .before .before in
     let within2 = at-becomes-secret .before .before .before .before in
     let at-target-at = within2 .before .before in
-    let at-pointer-at = at-target-at .before in
-    let within1 = at-pointer-at .before in
-    rw (within1 .if1 .taken) (marked _ _ _ (at-pointer-at .pointer-at .ensures) _ (at-target-at .target-at .ensures) _ _ _ (at-becomes-secret .becomes-secret .ensures) (at-mark .mark .ensures))
+    let at-logged-offset = at-target-at .before in
+    let within1 = at-logged-offset .before in
+    rw (within1 .if1 .taken) (marked _ _ _ (at-logged-offset .logged-offset .ensures) _ (at-target-at .target-at .ensures) _ _ _ (at-becomes-secret .becomes-secret .ensures) (at-mark .mark .ensures))
 
 returns-2 : tie.Need-returns-2
 returns-2 c =
     let at-target-at = c .before .before in
-    let at-pointer-at = at-target-at .before in
-    let within1 = at-pointer-at .before in
+    let at-logged-offset = at-target-at .before in
+    let within1 = at-logged-offset .before in
     let at-slice-known = within1 .before .before .before .before in
     let entry = at-slice-known .before .before in
     let h = entry .pre (within1 .if1 .taken) in
-    rw (within1 .if1 .taken) (unmarked _ _ _ (at-pointer-at .pointer-at .ensures) _ (at-target-at .target-at .ensures) _ (c .if2 .left) (h .placed))
+    rw (within1 .if1 .taken) (unmarked _ _ _ (at-logged-offset .logged-offset .ensures) _ (at-target-at .target-at .ensures) _ (c .if2 .left) (h .placed))
 
 returns-3 : tie.Need-returns-3
 returns-3 c = rw (c .if1 .left) refl
@@ -72,7 +72,7 @@ pub mark-after-spec : {M : Type 1} → statement M
 mark-after-spec =
     tie.close
     (tie.spec
-    pointer-at-requires
+    logged-offset-requires
     target-at-requires
     becomes-secret-requires
     mark-requires

@@ -65,7 +65,7 @@ loop-holds c =
     let at-slice-known4 = c .before .before .before .before in
     let at-shared-slice-known = at-slice-known4 .before .before .before .before in
     let pre = at-shared-slice-known .before .pre in
-    begun _ _ _ _ _ _ _ _ (pre .0) (pre .1) (pre .2) (pre .3)
+    begun _ _ _ _ _ _ _ _ (pre .4) (pre .0) (pre .1) (pre .2) (pre .3)
 
 step-at-requires : tie.Need-step-at-requires Inv-loop μ-loop
 step-at-requires c κs =

@@ -37,7 +37,7 @@ run-from-requires c κs =
     let at-shared-slice-known = at-slice-known3 .before .before .before in
     let entry = at-shared-slice-known .before in
     let pre = entry .pre in
-    (pre .0, pre .1, pre .2)
+    (pre .0, pre .1, pre .2, pre .5)
 
 mark-after-requires : tie.Need-mark-after-requires
 mark-after-requires c κs =

@@ -8,9 +8,9 @@ use Rattle.machine.specs.Program.{programOf}
 use Rattle.machine.specs.Memory.{valueAt}
 use Rattle.machine.specs.Effect.{operationAt}
 use Rattle.machine.proofs.Conditions.{few-operations}
-use Rattle.run_plan.proofs.Places.{of-bytes, placed, movable, branching, computable, in-words, index-small}
+use Rattle.run_plan.proofs.Places.{of-bytes, placed, movable, addressable, branching, computable, in-words, index-small}
 use Rattle.run_plan.proofs.Opcodes.{of-opcode}
-use Rattle.run_plan.proofs.Planning.{plans-move, plans-branch, plans-data}
+use Rattle.run_plan.proofs.Planning.{planned-access, planned-branch, planned-data}
 use Rattle.run_plan.proofs.plan_at.Statement.{statement}
 use Rattle.run_plan.proofs.plan_at.Tie as tie
 
@@ -36,10 +36,12 @@ move-at-requires : tie.Need-move-at-requires
 move-at-requires c κs =
     let decoded = c .before .before .before .before in
     let entry = decoded .before .before .before .before in
-    let pre = entry .before .pre in (
+    let pre = entry .before .pre in
+    let m = movable _ _ _ _ (pre .0 .operations _ (pre .1)) (of-opcode accesses (decoded .opcode-at .ensures) (c .before .class-of .ensures .0) (eq-eqb _ 1 (c .if1 .taken))) in (
       in-words _ _ (pre .0) _ (pre .1),
       index-small _ _ (pre .0) _ (pre .1),
-      movable _ _ _ _ (pre .0 .operations _ (pre .1)) (of-opcode accesses (decoded .opcode-at .ensures) (c .before .class-of .ensures .0) (eq-eqb _ 1 (c .if1 .taken))),
+      m,
+      addressable _ _ _ _ (pre .2) (pre .0 .inRange) m,
     )
 
 returns : tie.Need-returns
@@ -52,7 +54,7 @@ returns c =
     let pre = entry .before .pre in
     let b = read1 .read-input1 .ensures ∙ ap (valueAt _ _) (read1 .before .varnode-at .ensures) in
     let m = movable _ _ _ _ (pre .0 .operations _ (pre .1)) (of-opcode accesses (decoded .opcode-at .ensures) (tested .class-of .ensures .0) (eq-eqb _ 1 (c .before .if1 .taken))) in
-    c .move-at .ensures ∙ rw b (plans-move (programOf _ _) _ _ _ _ _ m)
+    c .move-at .ensures ∙ planned-access (programOf _ _) _ _ _ _ _ b m
 
 branch-at-requires : tie.Need-branch-at-requires
 branch-at-requires c κs =
@@ -83,7 +85,8 @@ returns-2 c =
     let small = few-operations _ _ (pre .0 .inRange) in
     let branch = of-opcode branches (decoded .opcode-at .ensures) (tested .class-of .ensures .1) (eq-eqb _ 2 (c .before .if2 .taken)) in
     let b = read1 .read-input1 .ensures ∙ ap (valueAt _ _) (read1 .before .varnode-at .ensures) in
-    c .branch-at .ensures ∙ rw b (plans-branch _ _ _ _ _ _ (branching _ _ _ _ w (entry .before .args .settings) (λ k. entry .shared-slice-known .given k .fits) bytes small branch))
+    c .branch-at .ensures
+    ∙ planned-branch (programOf _ _) _ _ _ _ _ b (branching _ _ _ _ w (entry .before .args .settings) (λ k. entry .shared-slice-known .given k .fits) bytes small branch)
 
 varnode-at-requires-2 : tie.Need-varnode-at-requires-2
 varnode-at-requires-2 c κs =
@@ -131,7 +134,7 @@ returns-3 c =
     let access = of-opcode accesses (decoded .opcode-at .ensures) (tested .class-of .ensures .0) (ne-eqb _ 1 (straight .before .if1 .left)) in
     let a = c .before .read-input0 .ensures ∙ ap (valueAt _ _) (c .before .before .varnode-at2 .ensures) in
     let b = read1 .read-input1 .ensures ∙ ap (valueAt _ _) (read1 .before .varnode-at .ensures) in
-    c .data-at .ensures ∙ rw (a, b) (plans-data _ _ _ _ _ _ access)
+    c .data-at .ensures ∙ rw a (planned-data (programOf _ _) _ _ _ _ _ b access)
 
 pub plan-at-spec : {M : Type 1} → statement M
 plan-at-spec =

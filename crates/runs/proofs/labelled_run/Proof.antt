@@ -19,7 +19,7 @@ run-any-requires c κs =
     let past1 = at-run-any-arg3 .before .before .before in
     let at-labelled-refusal = past1 .before .before in
     let a = accepted _ _ _ _ _ _ _ (at-labelled-refusal .labelled-refusal .ensures) (past1 .if1 .left) in
-    (a .0, a .1, omega arith, labels-fit (a .2))
+    (a .0, a .1, omega arith, labels-fit (a .2), a .4)
 
 returns-2 : tie.Need-returns-2
 unfolding labelledRun

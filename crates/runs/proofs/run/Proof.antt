@@ -20,7 +20,7 @@ run-any-requires c κs =
     let past1 = at-run-any-arg3 .before .before .before in
     let at-plain-refusal = past1 .before .before in
     let a = accepted _ _ _ _ _ _ _ (at-plain-refusal .plain-refusal .ensures) (past1 .if1 .left) in
-    (a .0, a .1, omega arith, none-fit)
+    (a .0, a .1, omega arith, none-fit, a .4)
 
 returns-2 : tie.Need-returns-2
 unfolding plainRun unlabelled

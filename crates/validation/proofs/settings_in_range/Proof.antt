@@ -7,7 +7,10 @@ use Rattle.validation.proofs.settings_in_range.Tie as tie
 
 returns : tie.Need-returns
 unfolding settingsInRange
-returns c = rw (c .both .ensures, c .before .is-size .ensures) refl
+returns c =
+    let two = c .before .before in
+    rw (c .both2 .ensures, c .before .wordsizes-in-range .ensures, two .both .ensures, two .before .is-size .ensures) refl
 
 pub settings-in-range-spec : {M : Type 1} → statement M
-settings-in-range-spec = tie.close (tie.spec (λ c κs. search needs) (λ c κs. search needs) returns)
+settings-in-range-spec =
+    tie.close (tie.spec (λ c κs. search needs) (λ c κs. search needs) (λ c κs. search needs) (λ c κs. search needs) returns)

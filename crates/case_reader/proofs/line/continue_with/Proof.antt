@@ -1,4 +1,5 @@
 -- `case_reader::line::continue_with` meets its contract.
+use native.Mathlib.Omega.{arith}
 use borrow.Author.Needs.{needs}
 use Rattle.case_reader.specs.Case.{lineAdded}
 use Rattle.case_reader.proofs.Feeding.{fed-bad, placed, stores, fed-outside, fed-memory, fed-labels, stores-words, fed-full, fed-operation}
@@ -58,6 +59,15 @@ store-words-requires c κs =
     stores-words (start .args .number) (start .args .s .now) (at-frame .frame-of .ensures .0) _ _ _ _ (start .pre) (at-told .enum-told2 .given .1)
     (c .before .before .if3 .left)
 
+add-t29 : tie.Need-add-t29
+add-t29 c =
+    let at-words = c .before .before .before .before in
+    let at-test = at-words .before .before .before .before in
+    let at-frame = at-test .before .before .before .before in
+    let start = at-frame .before .before .before .before .before in
+    let few = start .pre .stageFits .operations in
+    record { fits = omega arith }
+
 returns : tie.Need-returns
 returns c = search (needs, fed-outside)
 
@@ -82,7 +92,7 @@ continue-with-spec =
     (λ c. search (needs, fed-full))
     (λ c. search needs)
     store-words-requires
-    (λ c. search needs)
+    add-t29
     (λ c. search needs)
     returns-4
     (λ c. search needs)

@@ -1,24 +1,12 @@
 -- `operation::rules::length_of` meets its contract.
-use borrow.Author.Tests.{eq-eqb, ne-eqb}
+use borrow.Author.Needs.{needs}
 use Rattle.operation.specs.Rules.{lengthOf}
 use Rattle.operation.proofs.rules.length_of.Statement.{statement}
 use Rattle.operation.proofs.rules.length_of.Tie as tie
 
 returns : tie.Need-returns
 unfolding lengthOf
-returns c = rw (eq-eqb _ 2 (c .match .keys1))
-
-returns-2 : tie.Need-returns-2
-unfolding lengthOf
-returns-2 c = rw (c .match .keys2)
-
-returns-3 : tie.Need-returns-3
-unfolding lengthOf
-returns-3 c = rw (c .match .keys3)
-
-returns-4 : tie.Need-returns-4
-unfolding lengthOf
-returns-4 c = rw (ne-eqb _ 2 (c .match .rest .0 .0 .1), ne-eqb _ 3 (c .match .rest .0 .1), ne-eqb _ 4 (c .match .rest .1))
+returns c = c .by-space .ensures
 
 pub length-of-spec : {M : Type 1} → statement M
-length-of-spec = tie.close (tie.spec returns returns-2 returns-3 returns-4)
+length-of-spec = tie.close (tie.spec (λ c κs. search needs) returns)

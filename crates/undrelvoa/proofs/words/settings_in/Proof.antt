@@ -10,4 +10,5 @@ unfolding settingsIn
 returns c = refl
 
 pub settings-in-spec : {M : Type 1} → statement M
-settings-in-spec = tie.close (tie.spec (λ c. search needs) (λ c. search needs) returns)
+settings-in-spec =
+    tie.close (tie.spec (λ c. search needs) (λ c. search needs) (λ c. search needs) (λ c. search needs) (λ c. search needs) returns)
