@@ -10,8 +10,9 @@ use lib.Dec.{eqb, leb}
 use lib.ListN.{length}
 use Rattle.word.specs.Word.{isSize, Bytes}
 use Rattle.integer.proofs.Booleans.{both, one-to-eight}
-use Rattle.arithmetic.specs.Opcodes.{mostInputs, opcodes, rowOf, outputs, hasPlace, member}
+use Rattle.arithmetic.specs.Opcodes.{mostInputs, opcodes, rowOf, outputs, inputs, hasPlace, member}
 use Rattle.arithmetic.specs.Operands.{sizesAgree}
+use Rattle.operation.specs.declared.layout.Varnode.{Varnode}
 use Rattle.operation.specs.declared.layout.Settings.{Settings}
 use Rattle.operation.specs.declared.layout.Lengths.{Lengths}
 use Rattle.operation.specs.Layout.{wordsizeOf, wordsPerOperation, operationCount, opcodeAt, varnodeAt, absent}
@@ -27,7 +28,7 @@ use Rattle.machine.proofs.Cases.{either}
 use Rattle.run_memory.specs.Placed.{Placed}
 use Rattle.run_plan.specs.Valid.{Valid}
 use Rattle.run_plan.specs.Plans.{Movable, Addressable, Branching, Computable}
-use Rattle.run_plan.proofs.Opcodes.{each-branch, access-no-branch, late}
+use Rattle.run_plan.proofs.Opcodes.{each-access, each-branch, access-no-branch, late}
 
 -- a list is valid by the lengths of the spaces alone
 pub valid-with : {a b : Lengths} {list : List ℕ} → a ≡ b → Valid b list → Valid a list
@@ -154,6 +155,14 @@ in-range lengths list e =
     let c = both (whole && few) u (b .0) in
     (leb-true _ _ (both whole few (c .0) .1), leb-true _ _ (c .1), leb-true _ _ (b .1), leb-true _ _ (a .1))
 
+-- LOAD has an output and STORE an input2, each of at least one byte
+moves-some : (n : ℕ) → accesses n ≡ true → (output input2 : Varnode) → (hasPlace n 0 ≡ true → 1 ≤ output .size) → (hasPlace n 3 ≡ true → 1 ≤ input2 .size)
+    → 1 ≤ cond (eqb n 2) output input2 .size
+unfolding hasPlace outputs inputs rowOf opcodes
+moves-some n a output input2 =
+    each-access (λ k. (hasPlace k 0 ≡ true → 1 ≤ output .size) → (hasPlace k 3 ≡ true → 1 ≤ input2 .size) → 1 ≤ cond (eqb k 2) output input2 .size)
+    (λ f g. f refl) (λ f g. g refl) n a
+
 pub space-small : (m : Memory) (list : List ℕ) → lengthsInRange (lengthsOf m) list ≡ true → (space : ℕ) → length (spaceOf m space) ≤ mostBytes
 unfolding lengthOf
 space-small m list e space =
@@ -166,13 +175,17 @@ space-small m list e space =
     Small n = n ≤ mostBytes
 
 -- LOAD and STORE at a pointer
-pub addressable : (settings : Settings) (m : Memory) (list : List ℕ) (i : ℕ) → settingsInRange settings ≡ true → lengthsInRange (lengthsOf m) list ≡ true
-    → Movable m (operationAt list i) → Addressable settings m (operationAt list i)
+pub addressable : (settings : Settings) (m : Memory) (list : List ℕ) (i : ℕ) → settingsInRange settings ≡ true → (v : Valid (lengthsOf m) list)
+    → i < operationCount list → Movable m (operationAt list i) → Addressable settings m (operationAt list i)
 unfolding operationAt
-addressable settings m list i s l h = record {
+addressable settings m list i s v inside h = record {
   wordsize = one-to-eight _ (wordsize-in-range settings s (varnodeAt list i 1 .offset) (h .space .0) (h .space .1));
-  extent = space-small m list l (varnodeAt list i 1 .offset);
+  extent = space-small m list (v .inRange) (varnodeAt list i 1 .offset);
+  some = moves-some (opcodeAt list i) (h .opcode) (varnodeAt list i 0) (varnodeAt list i 3) (λ e. w .present 0 (omega arith) e .2) (λ e. w .present 3 (omega arith) e .2);
 }
+  where
+    w : WellFormed (v .addressSize) (lengthsOf m) list i
+    w = v .operations i inside
 
 module _ (lengths : Lengths) (list : List ℕ) (v : Valid lengths list) (i : ℕ) (h : i < operationCount list) where
   pub in-words : wordsPerOperation * i + wordsPerOperation ≤ length list

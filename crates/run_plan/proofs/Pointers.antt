@@ -1,12 +1,11 @@
--- A pointer and its byte offset, as the code computes it.
+-- A pointer and its byte offset, as the code computes it: a pointer past the space counts as the space's length.
 use Prim.Native.Nat.{ℕ, _+_, _*_, _≤_, _<_}
 use native.Mathlib.Nat.{mul-le-mul, mul-le-mul-left, le-trans}
 use native.Mathlib.Omega.{arith}
-use mathlib.Core.Path.{_≡_, refl, sym, _∙_}
-use mathlib.Core.Bool.{Bool, false, cond, not}
-use borrow.Author.Tests.{leb-true, lt-leb, not-false}
-use lib.Dec.{eqb, leb}
-use Rattle.word.proofs.Tests.{by-cond}
+use mathlib.Core.Path.{_≡_, refl, sym, ap, _∙_}
+use mathlib.Core.Bool.{Bool, true, false, cond}
+use borrow.Author.Tests.{leb-true, lt-leb, ltb-true, ltb-false}
+use lib.Dec.{eqb, leb, ltb}
 use Rattle.operation.specs.declared.layout.Varnode.{Varnode}
 use Rattle.operation.specs.declared.layout.Settings.{Settings}
 use Rattle.operation.specs.Layout.{wordsizeOf}
@@ -14,45 +13,73 @@ use Rattle.operation.specs.Rules.{lengthOf}
 use Rattle.validation.specs.Verdict.{mostBytes}
 use Rattle.machine.specs.Memory.{Memory, lengthsOf}
 use Rattle.machine.specs.Effect.{Operation, byteOffset}
-use Rattle.run_plan.specs.Plans.{Movable, Addressable}
+use Rattle.run_plan.specs.Plans.{Addressable}
 use Rattle.run_plan.proofs.Places.{space-length}
 
--- a pointer past the space has a byte offset past it
-pub past-space : (pointer wordsize size length : ℕ) → 1 ≤ wordsize → length < pointer → leb (pointer * wordsize + size) length ≡ false
-past-space pointer wordsize size length w l =
-    let p : pointer * 1 ≤ pointer * wordsize = mul-le-mul-left pointer w in
-    lt-leb (pointer * wordsize + size) length (omega arith)
+-- ---- with a wordsize and a size of at least 1
 
--- another is small enough to be multiplied
-pub product-small : {pointer wordsize length : ℕ} → pointer ≤ length → length ≤ mostBytes → wordsize ≤ 8 → pointer * wordsize ≤ mostBytes * 8
-product-small p l w = mul-le-mul (le-trans p l) w
+module _ (pointer wordsize size length : ℕ) (w : 1 ≤ wordsize) (s : 1 ≤ size) where
+  abbrev near : ℕ
+  near = cond (ltb pointer length) pointer length
 
--- the product is the byte offset
-pub product-is : (settings : Settings) (op : Operation) (pointer wordsize : ℕ) (input0 : Varnode) → input0 ≡ op .input0
-    → wordsize ≡ wordsizeOf (settings .wordsizes) (input0 .offset) → pointer * wordsize ≡ byteOffset settings op pointer
-unfolding byteOffset
-product-is settings op pointer wordsize input0 e0 ew = rw (ew, e0) refl
+  -- nothing fits at the product of a pointer that is not before the space's end
+  past : (x : ℕ) → length ≤ x → length < x * wordsize + size
+  past x l = let p : x * 1 ≤ x * wordsize = mul-le-mul-left x w in omega arith
 
--- The space that an operation names in its decoded input0.
-module _ (settings : Settings) (m : Memory) (op : Operation) (h : Addressable settings m op) (input0 : Varnode) (e0 : input0 ≡ op .input0) where
-  pub small-wordsize : (wordsize : ℕ) → wordsize ≡ wordsizeOf (settings .wordsizes) (input0 .offset) → (1 ≤ wordsize) × (wordsize ≤ 8)
-  small-wordsize wordsize ew = rw (ew, e0) (h .wordsize)
+  near-fits : leb (near * wordsize + size) length ≡ leb (pointer * wordsize + size) length
+  near-fits = by (ltb pointer length) refl
+    where
+      by : (t : Bool) → ltb pointer length ≡ t → leb (cond t pointer length * wordsize + size) length ≡ leb (pointer * wordsize + size) length
+      by true e = refl
+      by false e =
+          lt-leb (length * wordsize + size) length (past length (omega arith))
+          ∙ sym (lt-leb (pointer * wordsize + size) length (past pointer (ltb-false pointer length e)))
 
-  module _ (extent : ℕ) (ee : extent ≡ lengthOf (lengthsOf m) (input0 .offset)) where
-    pub small-space : extent ≤ mostBytes
-    small-space = rw (ee, e0, space-length m (op .input0 .offset)) (h .extent)
+  near-is : leb (near * wordsize + size) length ≡ true → near * wordsize ≡ pointer * wordsize
+  near-is = by (ltb pointer length) refl
+    where
+      by : (t : Bool) → ltb pointer length ≡ t → leb (cond t pointer length * wordsize + size) length ≡ true → cond t pointer length * wordsize ≡ pointer * wordsize
+      by true e f = refl
+      by false e f =
+          let l = leb-true (length * wordsize + size) length f in
+          let q = past length (omega arith) in
+          absurd (let z : ⊥ = omega arith in z)
 
-    -- a byte offset within it
-    pub reached-small : (offset size : ℕ) (t : Bool) → t ≡ leb (offset + size) extent → not t ≡ false → offset ≤ mostBytes
-    reached-small offset size t et k =
-        let w : offset + size ≤ extent = leb-true (offset + size) extent (sym et ∙ not-false t k) in
-        omega (arith, small-space)
-
--- what is moved has at most 8 bytes
-pub small-move : (m : Memory) (op : Operation) → Movable m op → (n : ℕ) (output input2 sized : Varnode) → n ≡ op .opcode → output ≡ op .output
-    → input2 ≡ op .input2 → sized ≡ cond (eqb n 2) output input2 → sized .size ≤ 8
-small-move m op h n output input2 sized en eo e2 es =
-    rw (es, en, eo, e2) (by-cond Few (eqb (op .opcode) 2) _ _ (λ k. h .loaded) (λ k. h .stored .size))
+near-small : (pointer length : ℕ) → cond (ltb pointer length) pointer length ≤ length
+near-small pointer length = by (ltb pointer length) refl
   where
-    Few : Varnode → Type 0
-    Few v = v .size ≤ 8
+    by : (t : Bool) → ltb pointer length ≡ t → cond t pointer length ≤ length
+    by true e = let l = ltb-true pointer length e in omega arith
+    by false e = omega arith
+
+-- ---- as the code finds it: n is the opcode, and output, input0 and input2 are varnodes, that it decoded; `sized` is what is moved
+
+module _ (settings : Settings) (m : Memory) (op : Operation) (h : Addressable settings m op) (n : ℕ) (output input0 input2 sized : Varnode) (eo : n ≡ op .opcode)
+    (e : output ≡ op .output) (e0 : input0 ≡ op .input0) (e2 : input2 ≡ op .input2) (es : sized ≡ cond (eqb n 2) output input2)
+    (pointer near wordsize extent : ℕ) (ew : wordsize ≡ wordsizeOf (settings .wordsizes) (input0 .offset))
+    (ee : extent ≡ lengthOf (lengthsOf m) (input0 .offset)) (en : near ≡ cond (ltb pointer extent) pointer extent) where
+  wordsize-fits : (1 ≤ wordsize) × (wordsize ≤ 8)
+  wordsize-fits = rw (ew, e0) (h .wordsize)
+
+  extent-fits : extent ≤ mostBytes
+  extent-fits = rw (ee, e0, space-length m (op .input0 .offset)) (h .extent)
+
+  some : 1 ≤ sized .size
+  some = rw (es, eo, e, e2) (h .some)
+
+  -- the product is small
+  pub product-small : near * wordsize ≤ mostBytes * 8
+  product-small = mul-le-mul (le-trans (rw en (near-small pointer extent)) extent-fits) (wordsize-fits .1)
+
+  -- as many bytes fit there as at the byte offset
+  pub product-fits : leb (near * wordsize + sized .size) extent ≡ leb (byteOffset settings op pointer + sized .size) extent
+  unfolding byteOffset
+  product-fits = rw (en, near-fits pointer wordsize (sized .size) extent (wordsize-fits .0) some, ew, e0) refl
+
+  -- and where they do it is the byte offset
+  pub product-is : leb (near * wordsize + sized .size) extent ≡ true → near * wordsize ≡ byteOffset settings op pointer
+  unfolding byteOffset
+  product-is f =
+      ap (λ (n : ℕ). n * wordsize) en
+      ∙ near-is pointer wordsize (sized .size) extent (wordsize-fits .0) some (rw en at f)
+      ∙ rw (ew, e0) refl

@@ -69,10 +69,12 @@ pub record Movable (m : Memory) (op : Operation) : Type 0 where
   pub loaded : op .output .size ≤ 8
   pub stored : Placed m (op .input2)
 
--- The space that LOAD and STORE name has a wordsize of 1 to 8 and at most 65,536 bytes: so a pointer that is not past it can be multiplied.
+-- The space that LOAD and STORE name has a wordsize of 1 to 8 and at most 65,536 bytes, so that its length can be multiplied; they move at
+-- least one byte, so that nothing is moved at its end.
 pub record Addressable (settings : Settings) (m : Memory) (op : Operation) : Type 0 where
   pub wordsize : (1 ≤ wordsizeOf (settings .wordsizes) (op .input0 .offset)) × (wordsizeOf (settings .wordsizes) (op .input0 .offset) ≤ 8)
   pub extent : length (spaceOf m (op .input0 .offset)) ≤ mostBytes
+  pub some : 1 ≤ cond (eqb (op .opcode) 2) (op .output) (op .input2) .size
 
 -- A branch goes to space 1 or 4, and has no output.
 pub record Branching (op : Operation) : Type 0 where

@@ -2,11 +2,11 @@
 ghost use mathlib.Core.Path.{_≡_};
 ghost use Prim.Native.Nat.{_+_, _*_, _≤_, _<_};
 ghost use mathlib.Core.Bool.{true, cond};
-ghost use lib.Dec.{eqb, leb};
+ghost use lib.Dec.{eqb};
 ghost use lib.ListN.{length};
 ghost use Rattle.operation.specs.Layout.{wordsPerOperation, operationCount};
 ghost use Rattle.operation.specs.Rules.{accesses, branches};
-ghost use Rattle.validation.specs.Verdict.{mostOperations, mostBytes, settingsInRange};
+ghost use Rattle.validation.specs.Verdict.{mostOperations, settingsInRange};
 ghost use Rattle.machine.specs.Program.{programOf};
 ghost use Rattle.machine.specs.Memory.{spaces, lengthsOf, valueAt};
 ghost use Rattle.machine.specs.Effect.{operationAt, byteOffset};
@@ -18,6 +18,7 @@ use arithmetic::operands::is_division;
 use arithmetic::value;
 use integer::boolean::both;
 use integer::boolean::flag;
+use integer::boolean::pick;
 use operation::layout::Settings;
 use operation::layout::Varnode;
 use operation::layout::absent;
@@ -33,6 +34,7 @@ use run_memory::varnode::read_input0;
 use run_memory::varnode::read_input1;
 use run_memory::varnode::read_moved;
 use std::num::wrapping_add_u64;
+use word::size::within;
 
 // stop: 0 goes on at `next`, 1 EXIT with `value`, 32 BOUNDS, 33 ZERO. due: a log word with this low part is to be written. The target,
 // which may be absent, gets the value.
@@ -123,19 +125,8 @@ fn choose(first: bool, a: Varnode, b: Varnode) -> Varnode
     if first { a } else { b }
 }
 
-// The `size` bytes at a pointer lie within a space of `length` bytes. A pointer past the space is not multiplied: its byte offset is past
-// it too.
-fn reaches(pointer: u64, wordsize: u64, size: u64, length: u64) -> bool
-    requires { ⌜ (1 ≤ wordsize) × (wordsize ≤ 8) × (length ≤ mostBytes) × (size ≤ 8) ⌝ }
-    ensures { λ r. ⌜ r ≡ leb (pointer * wordsize + size) length ⌝ }
-{
-    if length < pointer {
-        return false;
-    }
-    pointer * wordsize + size <= length
-}
-
-// LOAD and STORE at a pointer: one read and one write, from or to the bytes at its byte offset.
+// LOAD and STORE at a pointer: one read and one write, from or to the bytes at its byte offset. A pointer past the space counts as the
+// space's length, which is past it too: so no product is large. Of the ways to test this, it is the one that costs least.
 fn move_at<'a>(
     settings: Settings,
     list: &[u64],
@@ -157,12 +148,13 @@ fn move_at<'a>(
     let input2 = varnode_at(list, i, 3);
     let moved = choose(loads, output, input2);
     let space = input0.offset;
-    let wordsize = wordsize_of(settings.wordsizes, space);
     let lengths = lengths_of(unique, register, ram);
-    if !reaches(pointer, wordsize, moved.size, length_of(lengths, space)) {
+    let length = length_of(lengths, space);
+    let near = pick(pointer < length, pointer, length);
+    let offset = near * wordsize_of(settings.wordsizes, space);
+    if !within(offset, moved.size, length) {
         return control(32, i, false, 0, 0);
     }
-    let offset = pointer * wordsize;
     let pointee = Varnode {
         space: space,
         offset: offset,

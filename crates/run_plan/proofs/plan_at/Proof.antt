@@ -41,7 +41,7 @@ move-at-requires c κs =
       in-words _ _ (pre .0) _ (pre .1),
       index-small _ _ (pre .0) _ (pre .1),
       m,
-      addressable _ _ _ _ (pre .2) (pre .0 .inRange) m,
+      addressable _ _ _ _ (pre .2) (pre .0) (pre .1) m,
     )
 
 returns : tie.Need-returns
