@@ -25,12 +25,7 @@ pub struct Lengths {
 impl Lengths {
     /// How many bytes a space has, if it is a lent one.
     pub fn of(&self, space: u64) -> Option<u64> {
-        match space {
-            UNIQUE => Some(self.unique),
-            REGISTER => Some(self.register),
-            RAM => Some(self.ram),
-            _ => None,
-        }
+        of_space([self.unique, self.register, self.ram], space)
     }
 
     /// Whether all bytes of a varnode are in its space, a lent one.
@@ -60,17 +55,22 @@ impl Wordsizes {
 
     /// The wordsize of a space, if it is a lent one.
     pub fn of(&self, space: u64) -> Option<u64> {
-        match space {
-            UNIQUE => Some(self.unique),
-            REGISTER => Some(self.register),
-            RAM => Some(self.ram),
-            _ => None,
-        }
+        of_space(self.all(), space)
     }
 
     /// The wordsizes in the order of the spaces' numbers.
     pub fn all(&self) -> [u64; 3] {
         [self.unique, self.register, self.ram]
+    }
+}
+
+/// That of the numbers for unique, register and ram which is for a space, if it is a lent one.
+fn of_space([unique, register, ram]: [u64; 3], space: u64) -> Option<u64> {
+    match space {
+        UNIQUE => Some(unique),
+        REGISTER => Some(register),
+        RAM => Some(ram),
+        _ => None,
     }
 }
 
