@@ -46,12 +46,13 @@ extern "C" {
 #define UNDRELVOA_MAX_BUDGET UINT32_MAX /* C silently truncates a larger number */
 
 /* The words of settings. Their number is exact, and a later version may ask for more. So lend the words that you
- * wrote (sizeof settings / sizeof settings[0]): with this macro as their number, one that you do not know of
- * would be a 0 that nobody chose.
+ * wrote (sizeof settings / sizeof settings[0]): with UNDRELVOA_SETTINGS_WORDS as their number, one that you do not
+ * know of would be a 0 that nobody chose.
  *
  * A wordsize is how many bytes a pointer into that space counts as one, 1 to 8, also where the space is empty.
  * LOAD and STORE multiply the pointer by that of the space which input0 names; nothing wraps, not at the address
- * size either. Every other offset counts bytes. With wordsizes of 1 all answers are those of version 2. */
+ * size either. Offsets of varnodes count bytes, whatever the wordsize. With wordsizes of 1 all answers are those
+ * of version 2. */
 #define UNDRELVOA_SETTINGS_ORDER 0             /* byte order: UNDRELVOA_LITTLE or UNDRELVOA_BIG */
 #define UNDRELVOA_SETTINGS_ADDRESS_SIZE 1      /* bytes of an address, 1 to 8 */
 #define UNDRELVOA_SETTINGS_UNIQUE_WORDSIZE 2   /* wordsize of unique */

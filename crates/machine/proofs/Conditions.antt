@@ -114,6 +114,14 @@ when {A} n k same other = by (eqb n k) refl
     by true e = same (eqb-true n k e)
     by false e = other e
 
+-- a constant that names a space
+pub names-bytes : (v : Varnode) → namesSpace v ≡ true → (v .space ≡ 1) × (2 ≤ v .offset) × (v .offset ≤ 4)
+unfolding namesSpace
+names-bytes v e =
+    let n = both (eqb (v .space) 1 && leb 2 (v .offset)) (leb (v .offset) 4) e in
+    let l = both (eqb (v .space) 1) (leb 2 (v .offset)) (n .0) in
+    (eqb-true (v .space) 1 (l .0), leb-true 2 (v .offset) (l .1), leb-true (v .offset) 4 (n .1))
+
 -- the spaces with bytes, one by one
 pub each-space : (P : ℕ → Type 0) → P 2 → P 3 → P 4 → (space : ℕ) → 2 ≤ space → space ≤ 4 → P space
 each-space P p2 p3 p4 space low high =
@@ -534,12 +542,10 @@ module _ (program : Program) (op : Operation) (at : Position) (labels m : Memory
         (cbranched _ _ _ _ _ _ refl refl refl e d))
 
     pointee-fits : accesses (op .opcode) ≡ true → (size : ℕ) → valueAt (program .settings) m (pointee op offset1 size) < 256 ^ size
-    unfolding pointee namesSpace
+    unfolding pointee
     pointee-fits a size =
-        let n = both (eqb (op .input0 .space) 1 && leb 2 (op .input0 .offset)) (leb (op .input0 .offset) 4) (f .named a) in
-        let l = both (eqb (op .input0 .space) 1) (leb 2 (op .input0 .offset)) (n .0) in
         value-fits (program .settings) m (pointee op offset1 size) bytes
-        (λ e. let k : 2 ≤ op .input0 .offset = leb-true 2 (op .input0 .offset) (l .1) in absurd (let z : ⊥ = omega arith in z))
+        (λ e. let k : 2 ≤ op .input0 .offset = names-bytes (op .input0) (f .named a) .1 in absurd (let z : ⊥ = omega arith in z))
 
     meets-load : classOf (op .opcode) ≡ load → op .input0 .space ≡ 1
         → Bytes (op .output .size) (pointee op offset1 (op .output .size) ∷ []) → Meets
@@ -605,10 +611,7 @@ module _ (program : Program) (op : Operation) (at : Position) (labels m : Memory
         ∙ rw e refl
 
     names-a-space : accesses (op .opcode) ≡ true → op .input0 .space ≡ 1
-    unfolding namesSpace
-    names-a-space a =
-        let n = both (eqb (op .input0 .space) 1 && leb 2 (op .input0 .offset)) (leb (op .input0 .offset) 4) (f .named a) in
-        eqb-true (op .input0 .space) 1 (both (eqb (op .input0 .space) 1) (leb 2 (op .input0 .offset)) (n .0) .0)
+    names-a-space a = names-bytes (op .input0) (f .named a) .0
 
     pub meets : Meets
     unfolding classOf kindOf branches jumps divides accesses member moves hasPlace outputs inputs rowOf opcodes free divisions indirectBranches directBranches conditionalBranch load store
@@ -655,13 +658,11 @@ module _ (opcode : ℕ) (v : Varnode) where
   names p e = not-false (namesSpace v) (rw e at p)
 
   leads : breaksPlace opcode 1 v ≡ false → branches opcode ≡ true → isDestination v ≡ true
-  unfolding breaksPlace isDestination namesSpace
+  unfolding breaksPlace isDestination
   leads p e = by (accesses opcode) refl
     where
       by : (t : Bool) → accesses opcode ≡ t → isDestination v ≡ true
-      by true a =
-          let n = both (eqb (v .space) 1 && leb 2 (v .offset)) (leb (v .offset) 4) (names p a) in
-          rw (both (eqb (v .space) 1) (leb 2 (v .offset)) (n .0) .0) refl
+      by true a = rw (names-bytes v (names p a) .0) refl
       by false a = not-false (isDestination v) (rw (a, e) at p)
 
   is-constant : breaksPlace opcode 2 v ≡ false → opcode ≡ 11 → v .space ≡ 1

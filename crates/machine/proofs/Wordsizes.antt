@@ -4,12 +4,11 @@ use native.Mathlib.Omega.{arith}
 use mathlib.Core.Path.{_≡_, refl, sym, ap, _∙_}
 use mathlib.Core.Bool.{Bool, true, false, cond, _&&_, true≢false, xor}
 use mathlib.Core.List.{List, [], _∷_}
-use borrow.Author.Tests.{leb-true, leb-false}
+use borrow.Author.Tests.{leb-false}
 use lib.Dec.{eqb, leb}
 use Rattle.word.specs.Sum.{sum, tabulate, digit}
 use Rattle.word.specs.Word.{isSize, part, significance, valueOf, bytesOf}
 use Rattle.integer.specs.Operations.{flag}
-use Rattle.integer.proofs.Booleans.{both}
 use Rattle.arithmetic.specs.Opcodes.{opcodes, rowOf, outputs, inputs, sizesOf, hasPlace, member}
 use Rattle.arithmetic.specs.Operands.{divides, agree, sizesAgree}
 use Rattle.operation.specs.declared.layout.Settings.{Settings}
@@ -27,7 +26,7 @@ use Rattle.machine.specs.Run.{endingOf, logWord, logging, access, checke
 use Rattle.machine.specs.Calls.{sameLengths, allLabels, labelsInRange, refusal, logAfter, outcomeOf, starting, called, unlabelled, plainRun, labelledRun}
 use Rattle.machine.specs.Conditions.{exceedsSpace, lowPart, logWordOf, operand1, exactStep, exactStepWithin, Words}
 use Rattle.machine.specs.Wordsizes.{bytewiseStep, bytewiseStepWithin, AtWordsizeOne, OldAnswers, KnownAnswers}
-use Rattle.machine.proofs.Conditions.{names, when, each-space, exact-conditions}
+use Rattle.machine.proofs.Conditions.{names, names-bytes, when, each-space, exact-conditions}
 
 -- ---- what input1 stands for
 
@@ -84,14 +83,11 @@ old-step program op at labels m h = rw (old-operand program m op h) refl
 named-one : (settings : Settings) (lengths : Lengths) (list : List ℕ) → verdict settings lengths list .ending ≡ 0 → settings .wordsizes ≡ allOne
     → (i : ℕ) → i < operationCount list → accesses (operationAt list i .opcode) ≡ true
     → wordsizeOf (settings .wordsizes) (operationAt list i .input0 .offset) ≡ 1
-unfolding operationAt namesSpace wordsizeOf
+unfolding operationAt wordsizeOf
 named-one settings lengths list v one i inside a =
     let w = verdict-zero settings lengths list v .2 i inside in
-    let n = both (eqb (varnodeAt list i 1 .space) 1 && leb 2 (varnodeAt list i 1 .offset)) (leb (varnodeAt list i 1 .offset) 4)
-    (names (opcodeAt list i) (varnodeAt list i 1) (w .placed 1 (omega arith)) a) in
-    let low = leb-true 2 (varnodeAt list i 1 .offset) (both (eqb (varnodeAt list i 1 .space) 1) (leb 2 (varnodeAt list i 1 .offset)) (n .0) .1) in
-    let high = leb-true (varnodeAt list i 1 .offset) 4 (n .1) in
-    rw one (each-space (λ space. wordsizeOf allOne space ≡ 1) refl refl refl (varnodeAt list i 1 .offset) low high)
+    let n = names-bytes (varnodeAt list i 1) (names (opcodeAt list i) (varnodeAt list i 1) (w .placed 1 (omega arith)) a) in
+    rw one (each-space (λ space. wordsizeOf allOne space ≡ 1) refl refl refl (varnodeAt list i 1 .offset) (n .1) (n .2))
 
 old-run : (program : Program) (budget : ℕ) (at : Position) (labels m : Memory) → program .settings .wordsizes ≡ allOne
     → Words (program .list) → OfBytes m → verdict (program .settings) (lengthsOf m) (program .list) .ending ≡ 0
@@ -145,5 +141,6 @@ known-answers = record {
   wrapped = refl;
   at-2^64 = refl;
   largest = refl;
-  labels = refl;
+  stored-label = refl;
+  loaded-label = refl;
 }

@@ -104,9 +104,16 @@ OutOfBounds operation =
     plainRun mixed operation 0 1 (0 ∷ []) before
     ≡ plainOutcome (record { ending = 32; index = 0; executed = 0; logged = 0; value = 0 }) before (0 ∷ [])
 
--- Labels, all secret.
-abbrev pub allSecret : Memory
-allSecret = spaces (replicate 4 1) (replicate 6 1) (replicate 10 1)
+-- Labels: the same for every byte but that of ram at byte offset 8, and for the first byte of register.
+abbrev pub labelled : (others ram8 register0 : ℕ) → Memory
+labelled others ram8 register0 =
+    spaces (replicate 4 others) (sets (replicate 6 others) 0 (register0 ∷ [])) (sets (replicate 10 others) 8 (ram8 ∷ []))
+
+-- A labelled run of the operation alone leaves this log word, these labels and this memory.
+abbrev pub LeavesLabelled : (operation : List ℕ) (word : ℕ) (labels labels′ after : Memory) → Type 0
+LeavesLabelled operation word labels labels′ after =
+    labelledRun mixed operation 0 1 (0 ∷ []) labels before
+    ≡ labelledOutcome (record { ending = 0; index = 1; executed = 1; logged = 1; value = 0 }) after labels′ (word ∷ [])
 
 -- Each space has its own wordsize; the product is a whole number; labels are those at the byte offset.
 pub record KnownAnswers : Type 0 where
@@ -124,6 +131,6 @@ pub record KnownAnswers : Type 0 where
   pub wrapped : OutOfBounds (load 3 0x5555555555555556)
   pub at-2^64 : OutOfBounds (store 4 0x2000000000000000)
   pub largest : OutOfBounds (load 4 0xffffffffffffffff)
-  pub labels : labelledRun mixed (store 4 1) 0 1 (0 ∷ []) allSecret before
-      ≡ labelledOutcome (record { ending = 0; index = 1; executed = 1; logged = 1; value = 0 }) (inRam 8 255)
-      (spaces (replicate 4 1) (replicate 6 1) (sets (replicate 10 1) 8 (0 ∷ []))) (8 ∷ [])
+  -- among secret bytes, a STORE of a public one; among public bytes, a LOAD of a secret one
+  pub stored-label : LeavesLabelled (store 4 1) 8 (labelled 1 1 1) (labelled 1 0 1) (inRam 8 255)
+  pub loaded-label : LeavesLabelled (load 4 1) 8 (labelled 0 1 0) (labelled 0 1 1) (inRegister 0 38)

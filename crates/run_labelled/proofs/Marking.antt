@@ -5,25 +5,25 @@ use native.Mathlib.Omega.{arith}
 use mathlib.Core.Path.{_≡_, refl, sym, ap, _∙_}
 use mathlib.Core.Bool.{Bool, true, false, cond, _&&_, _||_, true≢false}
 use mathlib.Core.List.{List, [], _∷_, _++_, append-assoc}
-use borrow.Author.Tests.{eqb-true, leb-false}
+use borrow.Author.Tests.{leb-false}
 use lib.Dec.{eqb, leb, ltb}
 use lib.ListN.{length, getD, take, drop, replicate, length-append}
 use lib.Seq.{length-take-le, getD-append-seam}
 use Rattle.word.specs.Word.{bytesOf}
 use Rattle.integer.specs.Operations.{flag}
-use Rattle.integer.proofs.Booleans.{both, neither}
+use Rattle.integer.proofs.Booleans.{neither}
 use Rattle.arithmetic.specs.Opcodes.{member}
 use Rattle.operation.specs.declared.layout.Varnode.{Varnode}
 use Rattle.operation.specs.declared.report.Report.{Report}
 use Rattle.operation.specs.Layout.{operationCount, absent}
-use Rattle.operation.specs.Rules.{accesses, branches, namesSpace}
+use Rattle.operation.specs.Rules.{accesses, branches}
 use Rattle.machine.specs.Program.{Program, bigEndian}
 use Rattle.machine.specs.Memory.{Memory, OfBytes, lengthsOf, spaceOf, written, valueAt}
 use Rattle.machine.specs.Effect.{Operation, operationAt, pointee}
 use Rattle.machine.specs.Run.{Position, logWord, advanced, ended, continued, run}
 use Rattle.machine.specs.Calls.{Outcome, unlabelled, logAfter, outcomeOf, plainOutcome, labelledOutcome}
 use Rattle.machine.specs.Conditions.{operand1, hasSecret, leaks, exceedsSpace, outOfBounds, dividesByZero, writesLog, lowPart, exits, destinationBytes, becomesSecret, labelsAfter, valueWritten, Words}
-use Rattle.machine.proofs.Conditions.{Formed, formed, few-operations, absent-written, constant-public}
+use Rattle.machine.proofs.Conditions.{names-bytes, Formed, formed, few-operations, absent-written, constant-public}
 use Rattle.machine.proofs.Limits.{log-length}
 use Rattle.run_memory.specs.Placed.{Placed}
 use Rattle.run_plan.specs.declared.Plan.{Plan}
@@ -335,12 +335,11 @@ module _ (program : Program) (i k : ℕ) (log : List ℕ) (labels m : Memory) (w
         rw e at (d .0)
 
     names-constant : eqb (op .opcode) 2 ≡ true → op .input0 .space ≡ 1
-    unfolding namesSpace operationAt
+    unfolding operationAt
     names-constant e =
         let small = few-operations (lengthsOf m) (program .list) (v .inRange) in
         let f : Formed (program .settings) m i op = formed (program .settings) (v .addressSize) (program .list) i m words bytes small (v .operations i inside) in
-        let n = both (eqb (op .input0 .space) 1 && leb 2 (op .input0 .offset)) (leb (op .input0 .offset) 4) (f .named (loads-access e)) in
-        eqb-true (op .input0 .space) 1 (both (eqb (op .input0 .space) 1) (leb 2 (op .input0 .offset)) (n .0) .0)
+        names-bytes (op .input0) (f .named (loads-access e)) .0
 
     pub markable : Markable labels (program .list) log₁ i k
     unfolding operationAt pointee

@@ -23,7 +23,7 @@ use Rattle.validation.specs.WellFormed.{WellFormed}
 use Rattle.machine.specs.Memory.{Memory, OfBytes, spaces, lengthsOf, spaceOf, valueAt}
 use Rattle.machine.specs.Effect.{operationAt}
 use Rattle.machine.specs.Conditions.{Words}
-use Rattle.machine.proofs.Conditions.{Destination, Formed, formed, each-space}
+use Rattle.machine.proofs.Conditions.{Destination, Formed, formed, names-bytes, each-space}
 use Rattle.machine.proofs.Cases.{either}
 use Rattle.run_memory.specs.Placed.{Placed}
 use Rattle.run_plan.specs.Valid.{Valid}
@@ -70,15 +70,15 @@ module _ (m : Memory) (addressSize : ℕ) (list : List ℕ) (i : ℕ) (w : WellF
 
   -- rule 23 of LOAD and STORE
   pub movable : accesses (opcodeAt list i) ≡ true → Movable m (operationAt list i)
-  unfolding operationAt breaksPlace namesSpace
+  unfolding operationAt breaksPlace
   movable a =
       let f = access-no-branch (opcodeAt list i) a in
       let p = w .placed 1 (omega arith) in
       let q : not (namesSpace (varnodeAt list i 1)) ≡ false = rw a at p in
-      let n = both (eqb (varnodeAt list i 1 .space) 1 && leb 2 (varnodeAt list i 1 .offset)) (leb (varnodeAt list i 1 .offset) 4) (not-false _ q) in
+      let n = names-bytes (varnodeAt list i 1) (not-false _ q) in
       record {
         opcode = a;
-        space = (leb-true 2 (varnodeAt list i 1 .offset) (both (eqb (varnodeAt list i 1 .space) 1) (leb 2 (varnodeAt list i 1 .offset)) (n .0) .1), leb-true (varnodeAt list i 1 .offset) 4 (n .1));
+        space = (n .1, n .2);
         loaded = placed 0 (omega arith) (λ z. f) .size;
         stored = placed 3 (omega arith) (λ z. f);
       }

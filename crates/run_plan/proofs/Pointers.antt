@@ -71,7 +71,7 @@ module _ (settings : Settings) (m : Memory) (op : Operation) (h : Addressable se
   pub product-small : near * wordsize ≤ mostBytes * 8
   product-small = mul-le-mul (le-trans (rw en (near-small pointer extent)) extent-fits) (wordsize-fits .1)
 
-  -- as many bytes fit there as at the byte offset
+  -- the bytes fit there exactly where they fit at the byte offset
   pub product-fits : leb (near * wordsize + sized .size) extent ≡ leb (byteOffset settings op pointer + sized .size) extent
   unfolding byteOffset
   product-fits = rw (en, near-fits pointer wordsize (sized .size) extent (wordsize-fits .0) some, ew, e0) refl

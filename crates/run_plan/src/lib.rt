@@ -126,7 +126,7 @@ fn choose(first: bool, a: Varnode, b: Varnode) -> Varnode
 }
 
 // LOAD and STORE at a pointer: one read and one write, from or to the bytes at its byte offset. A pointer past the space counts as the
-// space's length, which is past it too: so no product is large. Of the ways to test this, it is the one that costs least.
+// space's length, which is past it too: so no product is large. docs/DECISIONS.md has the other ways that were measured.
 fn move_at<'a>(
     settings: Settings,
     list: &[u64],
