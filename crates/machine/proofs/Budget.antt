@@ -1,8 +1,8 @@
--- A run stopped by BUDGET and gone on with, from where it stopped: laws of the inner run.
+-- A run stopped by BUDGET and gone on with, from where it stopped: laws of every run that repeats one operation.
 use Prim.Native.Nat.{ℕ, zero, suc, _+_, _<_}
 use native.Mathlib.Nat.{zero-add, suc-add, add-suc, add-zero}
 use native.Mathlib.Omega.{arith}
-use mathlib.Core.Path.{_≡_, refl, sym, ap, _∙_}
+use mathlib.Core.Path.{_≡_, refl}
 use mathlib.Core.Bool.{Bool, true, false, cond}
 use mathlib.Core.List.{List, [], _++_, append-assoc, append-nil}
 use borrow.Author.Tests.{ltb-true}
@@ -11,32 +11,34 @@ use Rattle.operation.specs.Layout.{operationCount}
 use Rattle.machine.specs.Program.{Program}
 use Rattle.machine.specs.Memory.{Memory}
 use Rattle.machine.specs.Effect.{Operation, Kind, operationAt}
-use Rattle.machine.specs.Run.{Stop, Decision, Position, Ended, Stepped, endingOf, advanced, ended, applyDecision, executeAs, execute, stepped, continued, run}
-use Rattle.machine.proofs.Cases.{either, either₂}
+use Rattle.machine.specs.Run.{Decision, Position, Ended, Stepped, advanced, ended, applyDecision, executeAs, execute, stepped, continued, run}
+use Rattle.machine.proofs.Cases.{either₂}
 
--- ---- an operation never stops for the budget
+-- ---- a run
 
-data Goes : Stepped → Type 0 where
+-- A run that repeats an operation S while the budget lasts: at n, END; count equals budget, BUDGET.
+pub record Repeats (program : Program) (S : Position → Memory → Memory → Stepped) (R : ℕ → Position → Memory → Memory → Ended) : Type 0 where
+  pub none : (at : Position) (labels m : Memory) → R 0 at labels m ≡ ended (cond (ltb (at .index) (operationCount (program .list))) 2 0) 0 at labels m
+  pub next : (b : ℕ) (at : Position) (labels m : Memory) → R (suc b) at labels m ≡ continued (R b) (S at labels m)
+
+pub run-repeats : (program : Program) → Repeats program (stepped program) (run program)
+unfolding run
+run-repeats program = record { none = λ at labels m. refl; next = λ b at labels m. refl }
+
+-- ---- an operation
+
+-- it never stops for the budget
+pub data Goes : Stepped → Type 0 where
   halts : {r : Ended} → (r .ending ≡ 2 → ⊥) → Goes (Stepped.halted r)
   goes : {at : Position} {labels m : Memory} → Goes (Stepped.going at labels m)
 
-stop-ending : (e : Stop) → endingOf e ≡ 2 → ⊥
-unfolding endingOf
-stop-ending Stop.leak h = omega arith
-stop-ending Stop.bounds h = omega arith
-stop-ending Stop.zeroDivisor h = omega arith
-stop-ending Stop.logFull h = omega arith
+-- at n, END
+abbrev pub Ends : Program → (S : Position → Memory → Memory → Stepped) → Position → (labels m : Memory) → Type 0
+Ends program S at labels m = ltb (at .index) (operationCount (program .list)) ≡ false → S at labels m ≡ Stepped.halted (ended 0 0 at labels m)
 
-applied-goes : (program : Program) (k : Kind) (op : Operation) (at : Position) (labels m : Memory) (x : ℕ) (d : Decision) → Goes (applyDecision program k op at labels m x d)
-unfolding applyDecision ended
-applied-goes program k op at labels m x (Decision.stop e) = halts (stop-ending e)
-applied-goes program k op at labels m x (Decision.exit words d) = halts (λ (h : _≡_ {A = ℕ} 1 2). omega arith)
-applied-goes program k op at labels m x (Decision.next words i) = goes
-
-stepped-goes : (program : Program) (at : Position) (labels m : Memory) → Goes (stepped program at labels m)
-unfolding stepped execute executeAs ended
-stepped-goes program at labels m =
-    either Goes (ltb (at .index) (operationCount (program .list))) _ _ (applied-goes program _ (operationAt (program .list) (at .index)) at labels m _ _) (halts (λ (h : _≡_ {A = ℕ} 0 2). omega arith))
+pub stepped-ends : (program : Program) (at : Position) (labels m : Memory) → Ends program (stepped program) at labels m
+unfolding stepped
+stepped-ends program at labels m e = rw e refl
 
 -- ---- the budgets add up
 
@@ -47,13 +49,6 @@ unfolding continued
 continued-more f g h q (halts ne) e = absurd (ne e)
 continued-more f g h q (goes {at} {labels} {m}) e = q at labels m e
 
-pub run-more : (program : Program) (b c : ℕ) (at : Position) (labels m : Memory) → run program b at labels m .ending ≡ 2
-    → run program (b + c) at labels m ≡ run program c (run program b at labels m .position) (run program b at labels m .labels) (run program b at labels m .memory)
-unfolding run ended
-run-more program zero c at labels m e = rw zero-add
-run-more program (suc b) c at labels m e =
-    rw suc-add (continued-more _ _ (run program c) (λ at′ l m′ e′. run-more program b c at′ l m′ e′) (stepped-goes program at labels m) e)
-
 -- a run that BUDGET did not stop is the same with a larger budget
 continued-done : (f g : Position → Memory → Memory → Ended)
     → ((at : Position) (labels m : Memory) → (f at labels m .ending ≡ 2 → ⊥) → g at labels m ≡ f at labels m)
@@ -62,20 +57,7 @@ unfolding continued
 continued-done f g q (halts ne) e = refl
 continued-done f g q (goes {at} {labels} {m}) e = q at labels m e
 
-pub run-done : (program : Program) (b c : ℕ) (at : Position) (labels m : Memory) → (run program b at labels m .ending ≡ 2 → ⊥)
-    → run program (b + c) at labels m ≡ run program b at labels m
-unfolding run ended stepped continued
-run-done program zero c at labels m e = rw zero-add (end c (ltb (at .index) (operationCount (program .list))) refl)
-  where
-    end : (c : ℕ) (t : Bool) → ltb (at .index) (operationCount (program .list)) ≡ t → run program c at labels m ≡ run program 0 at labels m
-    end zero t k = refl
-    end (suc c) true k = absurd (e (rw k refl))
-    end (suc c) false k = rw k refl
-run-done program (suc b) c at labels m e =
-    rw suc-add (continued-done _ _ (λ at′ l m′ e′. run-done program b c at′ l m′ e′) (stepped-goes program at labels m) e)
-
--- ---- a run stopped by BUDGET has an operation before it
-
+-- a run stopped by BUDGET has an operation before it
 continued-index : (n : ℕ) (f : Position → Memory → Memory → Ended)
     → ((at : Position) (labels m : Memory) → f at labels m .ending ≡ 2 → f at labels m .position .index < n)
     → {a : Stepped} → Goes a → continued f a .ending ≡ 2 → continued f a .position .index < n
@@ -83,16 +65,40 @@ unfolding continued
 continued-index n f q (halts ne) e = absurd (ne e)
 continued-index n f q (goes {at} {labels} {m}) e = q at labels m e
 
-pub run-index : (program : Program) (b : ℕ) (at : Position) (labels m : Memory) → run program b at labels m .ending ≡ 2
-    → run program b at labels m .position .index < operationCount (program .list)
-unfolding run ended
-run-index program zero at labels m e = by (ltb (at .index) (operationCount (program .list))) refl e
-  where
-    by : (t : Bool) → ltb (at .index) (operationCount (program .list)) ≡ t → _≡_ {A = ℕ} (cond t 2 0) 2 → at .index < operationCount (program .list)
-    by true t z = ltb-true (at .index) (operationCount (program .list)) t
-    by false t z = absurd (let w : _≡_ {A = ℕ} 0 2 = z in omega (arith, w))
-run-index program (suc b) at labels m e =
-    continued-index (operationCount (program .list)) _ (λ at′ l m′ e′. run-index program b at′ l m′ e′) (stepped-goes program at labels m) e
+module _ {program : Program} {S : Position → Memory → Memory → Stepped} {R : ℕ → Position → Memory → Memory → Ended}
+    (u : Repeats program S R) (goes : (at : Position) (labels m : Memory) → Goes (S at labels m)) where
+  pub run-more : (b c : ℕ) (at : Position) (labels m : Memory) → R b at labels m .ending ≡ 2
+      → R (b + c) at labels m ≡ R c (R b at labels m .position) (R b at labels m .labels) (R b at labels m .memory)
+  unfolding ended
+  run-more zero c at labels m e = rw (zero-add, u .none at labels m) refl
+  run-more (suc b) c at labels m e =
+      rw (suc-add, u .next (b + c) at labels m, u .next b at labels m)
+      (continued-more _ _ (R c) (λ at′ l m′ e′. run-more b c at′ l m′ e′) (goes at labels m) (rw (u .next b at labels m) at e))
+
+  pub run-done : ((at : Position) (labels m : Memory) → Ends program S at labels m) → (b c : ℕ) (at : Position) (labels m : Memory) → (R b at labels m .ending ≡ 2 → ⊥)
+      → R (b + c) at labels m ≡ R b at labels m
+  unfolding ended continued
+  run-done ends zero c at labels m e = rw zero-add (end c (ltb (at .index) (operationCount (program .list))) refl)
+    where
+      end : (c : ℕ) (t : Bool) → ltb (at .index) (operationCount (program .list)) ≡ t → R c at labels m ≡ R 0 at labels m
+      end zero t k = refl
+      end (suc c) true k = absurd (e (rw (u .none at labels m, k) refl))
+      end (suc c) false k = rw (u .next c at labels m, u .none at labels m, ends at labels m k, k) refl
+  run-done ends (suc b) c at labels m e =
+      rw (suc-add, u .next (b + c) at labels m, u .next b at labels m)
+      (continued-done _ _ (λ at′ l m′ e′. run-done ends b c at′ l m′ e′) (goes at labels m) (rw (u .next b at labels m) at e))
+
+  pub run-index : (b : ℕ) (at : Position) (labels m : Memory) → R b at labels m .ending ≡ 2
+      → R b at labels m .position .index < operationCount (program .list)
+  unfolding ended
+  run-index zero at labels m e = rw (u .none at labels m) (by (ltb (at .index) (operationCount (program .list))) refl (rw (u .none at labels m) at e))
+    where
+      by : (t : Bool) → ltb (at .index) (operationCount (program .list)) ≡ t → _≡_ {A = ℕ} (cond t 2 0) 2 → at .index < operationCount (program .list)
+      by true t z = ltb-true (at .index) (operationCount (program .list)) t
+      by false t z = absurd (let w : _≡_ {A = ℕ} 0 2 = z in omega (arith, w))
+  run-index (suc b) at labels m e =
+      rw (u .next b at labels m)
+      (continued-index (operationCount (program .list)) _ (λ at′ l m′ e′. run-index b at′ l m′ e′) (goes at labels m) (rw (u .next b at labels m) at e))
 
 -- ---- the count and the log are carried along
 
@@ -103,7 +109,7 @@ later c words at = record { index = at .index; room = at .room; executed = c + a
 unfoldable pub laterEnded : ℕ → List ℕ → Ended → Ended
 laterEnded c words r = ended (r .ending) (r .value) (later c words (r .position)) (r .labels) (r .memory)
 
-data Later (c : ℕ) (words : List ℕ) : Stepped → Stepped → Type 0 where
+pub data Later (c : ℕ) (words : List ℕ) : Stepped → Stepped → Type 0 where
   halts : {r : Ended} → Later c words (Stepped.halted (laterEnded c words r)) (Stepped.halted r)
   goes : {at : Position} {labels m : Memory} → Later c words (Stepped.going (later c words at) labels m) (Stepped.going at labels m)
 
@@ -111,18 +117,18 @@ advanced-later : (c : ℕ) (words : List ℕ) (at : Position) (i : ℕ) (vs : Li
 unfolding advanced later
 advanced-later c words at i vs = rw (add-suc, append-assoc)
 
-module _ (c : ℕ) (words : List ℕ) (program : Program) where
-  applied-later : (k : Kind) (op : Operation) (at : Position) (labels m : Memory) (x : ℕ) (d : Decision)
+module _ (c : ℕ) (words : List ℕ) where
+  applied-later : (program : Program) (k : Kind) (op : Operation) (at : Position) (labels m : Memory) (x : ℕ) (d : Decision)
       → Later c words (applyDecision program k op (later c words at) labels m x d) (applyDecision program k op at labels m x d)
   unfolding applyDecision ended laterEnded later
-  applied-later k op at labels m x (Decision.stop e) = halts
-  applied-later k op at labels m x (Decision.exit vs d) = rw (advanced-later c words at (at .index) vs) halts
-  applied-later k op at labels m x (Decision.next vs i) = rw (advanced-later c words at i vs) goes
+  applied-later program k op at labels m x (Decision.stop e) = halts
+  applied-later program k op at labels m x (Decision.exit vs d) = rw (advanced-later c words at (at .index) vs) halts
+  applied-later program k op at labels m x (Decision.next vs i) = rw (advanced-later c words at i vs) goes
 
-  stepped-later : (at : Position) (labels m : Memory) → Later c words (stepped program (later c words at) labels m) (stepped program at labels m)
+  pub stepped-later : (program : Program) (at : Position) (labels m : Memory) → Later c words (stepped program (later c words at) labels m) (stepped program at labels m)
   unfolding stepped execute executeAs later laterEnded ended
-  stepped-later at labels m =
-      either₂ (Later c words) (ltb (at .index) (operationCount (program .list))) _ _ _ _ (applied-later _ (operationAt (program .list) (at .index)) at labels m _ _) halts
+  stepped-later program at labels m =
+      either₂ (Later c words) (ltb (at .index) (operationCount (program .list))) _ _ _ _ (applied-later program _ (operationAt (program .list) (at .index)) at labels m _ _) halts
 
   continued-later : (f : Position → Memory → Memory → Ended) → ((at : Position) (labels m : Memory) → f (later c words at) labels m ≡ laterEnded c words (f at labels m))
       → {a b : Stepped} → Later c words a b → continued f a ≡ laterEnded c words (continued f b)
@@ -130,10 +136,13 @@ module _ (c : ℕ) (words : List ℕ) (program : Program) where
   continued-later f h halts = refl
   continued-later f h (goes {at} {labels} {m}) = h at labels m
 
-  pub run-later : (b : ℕ) (at : Position) (labels m : Memory) → run program b (later c words at) labels m ≡ laterEnded c words (run program b at labels m)
-  unfolding run laterEnded ended later
-  run-later zero at labels m = refl
-  run-later (suc b) at labels m = continued-later _ (λ at′ l m′. run-later b at′ l m′) (stepped-later at labels m)
+  pub run-later : {program : Program} {S : Position → Memory → Memory → Stepped} {R : ℕ → Position → Memory → Memory → Ended} → Repeats program S R
+      → ((at : Position) (labels m : Memory) → Later c words (S (later c words at) labels m) (S at labels m))
+      → (b : ℕ) (at : Position) (labels m : Memory) → R b (later c words at) labels m ≡ laterEnded c words (R b at labels m)
+  unfolding laterEnded ended later
+  run-later u h zero at labels m = rw (u .none (later c words at) labels m, u .none at labels m) refl
+  run-later u h (suc b) at labels m =
+      rw (u .next b (later c words at) labels m, u .next b at labels m) (continued-later _ (λ at′ l m′. run-later u h b at′ l m′) (h at labels m))
 
 unfoldable pub fresh : Position → Position
 fresh at = record { index = at .index; room = at .room; executed = 0; log = [] }
@@ -141,14 +150,3 @@ fresh at = record { index = at .index; room = at .room; executed = 0; log = [] }
 pub fresh-later : (at : Position) → later (at .executed) (at .log) (fresh at) ≡ at
 unfolding later fresh
 fresh-later at = rw (add-zero, append-nil)
-
--- two runs, the second begun anew, against one run
-pub run-resumed : (program : Program) (b c : ℕ) (at : Position) (labels m : Memory) → run program b at labels m .ending ≡ 2
-    → run program (b + c) at labels m
-    ≡ laterEnded (run program b at labels m .position .executed) (run program b at labels m .position .log)
-    (run program c (fresh (run program b at labels m .position)) (run program b at labels m .labels) (run program b at labels m .memory))
-run-resumed program b c at labels m e =
-    let r = run program b at labels m in
-    run-more program b c at labels m e
-    ∙ ap (λ (p : Position). run program c p (r .labels) (r .memory)) (sym (fresh-later (r .position)))
-    ∙ run-later (r .position .executed) (r .position .log) program c (fresh (r .position)) (r .labels) (r .memory)

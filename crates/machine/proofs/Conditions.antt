@@ -21,8 +21,8 @@ use Rattle.machine.specs.Memory.{Memory, OfBytes, lengthsOf, spaceOf, wi
 use Rattle.operation.specs.Layout.{absent, wordsPerOperation, operationCount, wordAt, offsetAt, describedBy, varnodeAt}
 use Rattle.machine.specs.Effect.{Operation, operationAt, Kind, kindOf, moves, dropped, computed, anySecret, secret, sinks, tested, valuesOf, pointee, sources}
 use Rattle.machine.specs.Effect.{byteOffset, resolved, target, bytesWritten, labelsWritten}
-use Rattle.machine.specs.Run.{Stop, Decision, Position, Stepped, indexOf, goTo, logWord, logging, access, checked, decided, advanced, ended, endingOf, resolvedValue}
-use Rattle.machine.specs.Run.{applyDecision, executeAs, execute, stepped, continued, run}
+use Rattle.machine.specs.Run.{Stop, Decision, Position, Ended, Stepped, indexOf, goTo, logWord, logging, access, checked, decided, advanced, ended, endingOf, resolvedValue}
+use Rattle.machine.specs.Run.{applyDecision, executeAs, execute, stepped, continued}
 use Rattle.machine.specs.Conditions.{hasSecret, leaks, exceedsSpace, taken, branchTaken, outOfBounds, dividesByZero, writesLog, lowPart, logWordOf, exits}
 use Rattle.machine.specs.Conditions.{destination, nextIndex, destinationBytes, becomesSecret, valueComputed, valueMoved, valueWritten, positionAfter, exactStepWith}
 use Rattle.machine.specs.Conditions.{operand1, labelsAfter, exactStep, exactStepWithin, Words, ExactConditions}
@@ -30,9 +30,10 @@ use Rattle.operation.specs.Rules.{accesses, namesSpace, isDestination, breaksPl
 use Rattle.operation.proofs.Targets.{wrapping}
 use lib.IntN.{pos}
 use Rattle.validation.specs.WellFormed.{WellFormed}
-use Rattle.validation.specs.Verdict.{mostOperations, mostBytes, lengthsInRange}
+use Rattle.validation.specs.Verdict.{mostOperations, mostBytes, lengthsInRange, verdict}
 use Rattle.validation.proofs.WellFormed.{verdict-zero}
 use Rattle.operation.specs.declared.layout.Lengths.{Lengths}
+use Rattle.machine.proofs.Budget.{Repeats, run-repeats, Ends, stepped-ends}
 use Rattle.machine.proofs.Plain.{none-secret}
 use Rattle.machine.proofs.Moves.{moved-whole, moved-part, moved-both}
 
@@ -284,7 +285,7 @@ pub record Formed (settings : Settings) (m : Memory) (i : ℕ) (op : Operation) 
   pub fits2 : valueAt settings m (op .input2) < 256 ^ op .input2 .size
 
 module _ (program : Program) (op : Operation) (at : Position) (labels m : Memory) where
-  exactStepBy : (leak outside byZero due leaves : Bool) (word to next : ℕ) → Varnode → (hidden : Bool) (value : ℕ) → Stepped
+  unfoldable pub exactStepBy : (leak outside byZero due leaves : Bool) (word to next : ℕ) → Varnode → (hidden : Bool) (value : ℕ) → Stepped
   exactStepBy leak outside byZero due leaves word to next place hidden value =
       cond leak (Stepped.halted (ended 31 0 at labels m))
       (cond outside (Stepped.halted (ended 32 0 at labels m))
@@ -419,7 +420,7 @@ module _ (program : Program) (op : Operation) (at : Position) (labels m : Memory
     unfolding executeAs sinks resolvedValue resolved tested secret decided checked exactStepBy target
     branched t n e d = rw (t, n) (gone Kind.branch _ refl e [] d)
 
-    cbranched : word ≡ logWord (at .index) (flag (not (eqb value1 0))) → to ≡ op .input0 .offset
+    pub cbranched : word ≡ logWord (at .index) (flag (not (eqb value1 0))) → to ≡ op .input0 .offset
         → next ≡ cond (not (eqb value1 0) && eqb (op .input0 .space) 1) ((at .index + op .input0 .offset) % 2 ^ 64) (suc (at .index))
         → place ≡ absent → Destination (at .index) (op .input0)
         → executeAs program Kind.cbranch op at labels m
@@ -695,33 +696,39 @@ few-operations lengths list e =
     let n : operationCount list ≤ mostOperations = leb-true (operationCount list) mostOperations (both (eqb (length list % wordsPerOperation) 0) _ (d .0) .1) in
     omega arith
 
--- at n, END
-at-end : (program : Program) (budget : ℕ) (at : Position) (labels m : Memory) → ltb (at .index) (operationCount (program .list)) ≡ false
-    → run program budget at labels m ≡ continued (run program (budget - 1)) (exactStepWithin program budget at labels m)
-unfolding run stepped exactStepWithin continued
-at-end program zero at labels m e = rw (e, le-leb (operationCount (program .list)) (at .index) (ltb-false (at .index) (operationCount (program .list)) e)) refl
-at-end program (suc budget) at labels m e = rw (e, le-leb (operationCount (program .list)) (at .index) (ltb-false (at .index) (operationCount (program .list)) e)) refl
+-- at n, END; else BUDGET, or the operation
+module _ {program : Program} {S : Position → Memory → Memory → Stepped} {R : ℕ → Position → Memory → Memory → Ended} (u : Repeats program S R)
+    (at : Position) (labels m : Memory) (ends : Ends program S at labels m) where
+  abbrev n : ℕ
+  n = operationCount (program .list)
 
--- before n, BUDGET or the operation
-at-operation : (program : Program) (budget : ℕ) (at : Position) (labels m : Memory) → ltb (at .index) (operationCount (program .list)) ≡ true
-    → execute program (operationAt (program .list) (at .index)) at labels m ≡ exactStep program (operationAt (program .list) (at .index)) at labels m
-    → run program budget at labels m ≡ continued (run program (budget - 1)) (exactStepWithin program budget at labels m)
-unfolding run stepped exactStepWithin continued
-at-operation program zero at labels m e h = rw (e, lt-leb (operationCount (program .list)) (at .index) (ltb-true (at .index) (operationCount (program .list)) e)) refl
-at-operation program (suc budget) at labels m e h =
-    let less : suc budget - 1 ≡ budget = omega arith in
-    rw (e, lt-leb (operationCount (program .list)) (at .index) (ltb-true (at .index) (operationCount (program .list)) e), h, less, ne-eqb (suc budget) 0 (λ z. absurd (omega arith))) refl
+  pub within-budget : (budget : ℕ) (step : Stepped) → (ltb (at .index) n ≡ true → S at labels m ≡ step)
+      → R budget at labels m
+      ≡ continued (R (budget - 1)) (cond (leb n (at .index)) (Stepped.halted (ended 0 0 at labels m)) (cond (eqb budget 0) (Stepped.halted (ended 2 0 at labels m)) step))
+  unfolding continued
+  within-budget budget step h = by budget (ltb (at .index) n) refl
+    where
+      by : (budget : ℕ) (t : Bool) → ltb (at .index) n ≡ t
+          → R budget at labels m
+          ≡ continued (R (budget - 1)) (cond (leb n (at .index)) (Stepped.halted (ended 0 0 at labels m)) (cond (eqb budget 0) (Stepped.halted (ended 2 0 at labels m)) step))
+      by zero true e = rw (u .none at labels m, e, lt-leb n (at .index) (ltb-true (at .index) n e)) refl
+      by zero false e = rw (u .none at labels m, e, le-leb n (at .index) (ltb-false (at .index) n e)) refl
+      by (suc b) true e =
+          let less : suc b - 1 ≡ b = omega arith in
+          rw (u .next b at labels m, h e, lt-leb n (at .index) (ltb-true (at .index) n e), less, ne-eqb (suc b) 0 (λ z. absurd (omega arith))) refl
+      by (suc b) false e = rw (u .next b at labels m, ends e, le-leb n (at .index) (ltb-false (at .index) n e)) refl
+
+-- an operation of a list whose verdict is 0
+pub formed-at : (program : Program) (i : ℕ) (m : Memory) → Words (program .list) → OfBytes m
+    → verdict (program .settings) (lengthsOf m) (program .list) .ending ≡ 0 → ltb i (operationCount (program .list)) ≡ true
+    → Formed (program .settings) m i (operationAt (program .list) i)
+formed-at program i m words b v e =
+    let z = verdict-zero (program .settings) (lengthsOf m) (program .list) v in
+    let small = few-operations (lengthsOf m) (program .list) (z .1) in
+    formed (program .settings) (program .settings .«address_size») (program .list) i m words b small (z .2 i (ltb-true i (operationCount (program .list)) e))
 
 pub exact-conditions : ExactConditions
-exact-conditions program budget at labels m words b v = by (ltb (at .index) (operationCount (program .list))) refl
-  where
-    by : (t : Bool) → ltb (at .index) (operationCount (program .list)) ≡ t
-        → run program budget at labels m ≡ continued (run program (budget - 1)) (exactStepWithin program budget at labels m)
-    by true e =
-        let z = verdict-zero (program .settings) (lengthsOf m) (program .list) v in
-        let small = few-operations (lengthsOf m) (program .list) (z .1) in
-        let w = z .2 (at .index) (ltb-true (at .index) (operationCount (program .list)) e) in
-        at-operation program budget at labels m e
-        (meets program (operationAt (program .list) (at .index)) at labels m b
-        (formed (program .settings) (program .settings .«address_size») (program .list) (at .index) m words b small w))
-    by false e = at-end program budget at labels m e
+unfolding exactStepWithin stepped
+exact-conditions program budget at labels m words b v =
+    within-budget (run-repeats program) at labels m (stepped-ends program at labels m) budget (exactStep program (operationAt (program .list) (at .index)) at labels m)
+    (λ e. rw e (meets program (operationAt (program .list) (at .index)) at labels m b (formed-at program (at .index) m words b v e)))

@@ -17,9 +17,10 @@ use Rattle.machine.specs.Program.{Program}
 use Rattle.machine.specs.Memory.{Memory, lengthsOf, spaceOf, withSpace, written}
 use Rattle.machine.specs.Effect.{Operation, Kind, operationAt, sources, target, secret, labelsWritten}
 use Rattle.machine.specs.Run.{Stop, Decision, Position, Ended, Stepped, logging, goTo, access, checked, decided, advanced, ended, applyDecision, executeAs, execute}
-use Rattle.machine.specs.Run.{stepped, continued, run}
-use Rattle.machine.specs.Calls.{allLabels, labelsInRange, starting}
+use Rattle.machine.specs.Run.{stepped, continued}
+use Rattle.machine.specs.Calls.{allLabels, labelsInRange}
 use Rattle.machine.proofs.Cases.{either}
+use Rattle.machine.proofs.Budget.{Repeats}
 
 -- ---- writing keeps lengths, and labels of 0 or 1
 
@@ -130,8 +131,8 @@ pub record Kept (words : ℕ) (spaces : Lengths) (marks : Memory) (at : Position
   pub lengths : lengthsOf labels ≡ lengthsOf marks
   pub values : labelsInRange marks ≡ true → labelsInRange labels ≡ true
 
-module _ (words : ℕ) (spaces : Lengths) (marks : Memory) (program : Program) where
-  data KeptStep : Stepped → Type 0 where
+module _ (words : ℕ) (spaces : Lengths) (marks : Memory) where
+  pub data KeptStep : Stepped → Type 0 where
     halts : {r : Ended} → Kept words spaces marks (r .position) (r .labels) (r .memory) → KeptStep (Stepped.halted r)
     goes : {at : Position} {labels m : Memory} → Kept words spaces marks at labels m → KeptStep (Stepped.going at labels m)
 
@@ -140,13 +141,13 @@ module _ (words : ℕ) (spaces : Lengths) (marks : Memory) (program : Program) w
   unfolding advanced
   advanced-log at i vs h e = rw (length-append (at .log) vs) (omega (arith, h, e))
 
-  applied-kept : (k : Kind) (op : Operation) (at : Position) (labels m : Memory) (x : ℕ) {d : Decision} → Fits (at .room) d
+  applied-kept : (program : Program) (k : Kind) (op : Operation) (at : Position) (labels m : Memory) (x : ℕ) {d : Decision} → Fits (at .room) d
       → Kept words spaces marks at labels m → KeptStep (applyDecision program k op at labels m x d)
   unfolding applyDecision ended labelsWritten
-  applied-kept k op at labels m x stops h = halts h
-  applied-kept k op at labels m x (exited l) h =
+  applied-kept program k op at labels m x stops h = halts h
+  applied-kept program k op at labels m x (exited l) h =
       halts (record { log = advanced-log at _ _ l (h .log); memory = h .memory; lengths = h .lengths; values = h .values })
-  applied-kept k op at labels m x (nexts l) h =
+  applied-kept program k op at labels m x (nexts l) h =
       goes (record {
         log = advanced-log at _ _ l (h .log);
         memory = written-lengths m (target k op x) _ ∙ h .memory;
@@ -154,11 +155,11 @@ module _ (words : ℕ) (spaces : Lengths) (marks : Memory) (program : Program) w
         values = λ q. written-labels labels (target k op x) _ (h .values q) (all-flags (target k op x .size) (secret labels (sources k op x)));
       })
 
-  stepped-kept : (at : Position) (labels m : Memory) → Kept words spaces marks at labels m → KeptStep (stepped program at labels m)
+  pub stepped-kept : (program : Program) (at : Position) (labels m : Memory) → Kept words spaces marks at labels m → KeptStep (stepped program at labels m)
   unfolding stepped execute executeAs ended
-  stepped-kept at labels m h =
+  stepped-kept program at labels m h =
       either KeptStep (ltb (at .index) (operationCount (program .list))) _ _
-      (applied-kept _ (operationAt (program .list) (at .index)) at labels m _ (decided-fits _ _ _ _ _ _ _) h) (halts h)
+      (applied-kept program _ (operationAt (program .list) (at .index)) at labels m _ (decided-fits _ _ _ _ _ _ _) h) (halts h)
 
   continued-kept : (f : Position → Memory → Memory → Ended)
       → ((at : Position) (labels m : Memory) → Kept words spaces marks at labels m
@@ -168,17 +169,10 @@ module _ (words : ℕ) (spaces : Lengths) (marks : Memory) (program : Program) w
   continued-kept f q (halts h) = h
   continued-kept f q (goes {at} {labels} {m} h) = q at labels m h
 
-  pub run-kept : (b : ℕ) (at : Position) (labels m : Memory) → Kept words spaces marks at labels m
-      → Kept words spaces marks (run program b at labels m .position) (run program b at labels m .labels) (run program b at labels m .memory)
-  unfolding run ended
-  run-kept zero at labels m h = h
-  run-kept (suc b) at labels m h = continued-kept _ (λ at′ l m′ h′. run-kept b at′ l m′ h′) (stepped-kept at labels m h)
-
--- a run keeps the lengths that it began with, and its labels stay labels
-pub started-kept : (program : Program) (start budget : ℕ) (log : List ℕ) (labels m : Memory)
-    → (let r = run program budget (starting start (length log)) labels m in
-    Kept (length log) (lengthsOf m) labels (r .position) (r .labels) (r .memory))
-unfolding starting
-started-kept program start budget log labels m =
-    run-kept (length log) (lengthsOf m) labels program budget (starting start (length log)) labels m
-    (record { log = omega arith; memory = refl; lengths = refl; values = λ q. q })
+  pub run-kept : {program : Program} {S : Position → Memory → Memory → Stepped} {R : ℕ → Position → Memory → Memory → Ended} → Repeats program S R
+      → ((at : Position) (labels m : Memory) → Kept words spaces marks at labels m → KeptStep (S at labels m))
+      → (b : ℕ) (at : Position) (labels m : Memory) → Kept words spaces marks at labels m
+      → Kept words spaces marks (R b at labels m .position) (R b at labels m .labels) (R b at labels m .memory)
+  unfolding ended
+  run-kept u k zero at labels m h = rw (u .none at labels m) h
+  run-kept u k (suc b) at labels m h = rw (u .next b at labels m) (continued-kept _ (λ at′ l m′ h′. run-kept u k b at′ l m′ h′) (k at labels m h))

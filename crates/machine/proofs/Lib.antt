@@ -6,6 +6,8 @@ pub mod Plain
 pub mod Noninterference
 pub mod Budget
 pub mod Kept
+pub mod Counts
+pub mod Runs
 pub mod Resume
 pub mod Order
 pub mod Limits

@@ -33,7 +33,7 @@ same-lengths x y t =
     let f = both (eqb (x .unique) (y .unique)) (eqb (x .register) (y .register)) (e .0) in
     (eqb-true (x .unique) (y .unique) (f .0), eqb-true (x .register) (y .register) (f .1), eqb-true (x .ram) (y .ram) (e .1))
 
-spaces-from : {labels m n : Memory} → sameLengths (lengthsOf labels) (lengthsOf m) ≡ true → LowEquivalent labels m n → Spaces Public labels m n
+pub spaces-from : {labels m n : Memory} → sameLengths (lengthsOf labels) (lengthsOf m) ≡ true → LowEquivalent labels m n → Spaces Public labels m n
 unfolding lengthsOf spaceOf
 spaces-from {labels} {m} {n} t l =
     let e = same-lengths (lengthsOf labels) (lengthsOf m) t in
@@ -45,11 +45,11 @@ spaces-from {labels} {m} {n} t l =
 
 -- ---- the calls
 
-logged-words : (words log : List ℕ) → take (length words) (logAfter words log) ≡ words
+pub logged-words : (words log : List ℕ) → take (length words) (logAfter words log) ≡ words
 unfolding logAfter
 logged-words words log = take-append-seam words (drop (length words) log)
 
-outcome-view : (log log′ : List ℕ) {r q : Ended} → SameView r q → Indistinguishable (outcomeOf log r) (outcomeOf log′ q)
+pub outcome-view : (log log′ : List ℕ) {r q : Ended} → SameView r q → Indistinguishable (outcomeOf log r) (outcomeOf log′ q)
 unfolding outcomeOf
 outcome-view log log′ {r} {q} v = record {
   report = rw (v .ending, v .value, v .position);

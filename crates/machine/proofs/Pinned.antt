@@ -13,10 +13,8 @@ use Rattle.operation.specs.declared.layout.Settings.{Settings}
 use Rattle.operation.specs.declared.layout.Lengths.{Lengths}
 use Rattle.operation.specs.declared.layout.Varnode.{Varnode}
 use Rattle.operation.specs.declared.report.Report.{Report}
-use Rattle.operation.specs.Layout.{operationCount, opcodeAt, varnodeAt}
-use Rattle.operation.specs.Rules.{breaksHead, breaksShapeAt, breaksPlace, breaksRange, breaksSize, breaksTarget}
-use Rattle.validation.specs.declared.Malformed.{Malformed}
-use Rattle.validation.specs.Verdict.{settingsInRange, lengthsInRange, anyPlace, sizeOrTarget, lowestRule, firstMalformed, malformed, refusalReport}
+use Rattle.operation.specs.Layout.{operationCount}
+use Rattle.validation.specs.Verdict.{settingsInRange, lengthsInRange, malformed, refusalReport}
 use Rattle.machine.specs.Program.{Program, programOf}
 use Rattle.machine.specs.Memory.{Memory, lengthsOf}
 use Rattle.machine.specs.Effect.{Operation, Kind, operationAt}
@@ -25,12 +23,14 @@ use Rattle.machine.specs.Calls.{Outcome, unlabelled, labelledOutcome, re
 use Rattle.machine.specs.Pinned.{Answers, Pinned}
 use Rattle.machine.proofs.Cases.{either}
 use Rattle.machine.proofs.Plain.{nothing-secret, nothing-written}
-use Rattle.machine.proofs.Limits.{run-counts}
+use Rattle.machine.proofs.Refusals.{Known, none, known, found-known}
+use Rattle.machine.proofs.Counts.{not-refused}
+use Rattle.machine.proofs.Runs.{run-laws}
 
 -- ---- accepted and refused
 
 -- the words behind those written
-lent-word : (words log : List ℕ) (k : ℕ) → length words ≤ k → getD (words ++ drop (length words) log) k 0 ≡ getD log k 0
+pub lent-word : (words log : List ℕ) (k : ℕ) → length words ≤ k → getD (words ++ drop (length words) log) k 0 ≡ getD log k 0
 lent-word words log k h =
     let e : k ≡ length words + (k - length words) = omega arith in
     ap (λ (n : ℕ). getD (words ++ drop (length words) log) n 0) e
@@ -63,39 +63,15 @@ module _ (settings : Settings) (list : List ℕ) (start budget : ℕ) (log : Lis
 
 -- ---- the numbers of the rules
 
--- 0 or 21 to 26
-data Known : ℕ → Type 0 where
-  none : Known 0
-  rule : (n : ℕ) → 21 ≤ n → n ≤ 26 → Known n
-
-rule-known : (a : ℕ) (lengths : Lengths) (list : List ℕ) (i : ℕ) → Known (lowestRule a lengths list i)
-unfolding lowestRule sizeOrTarget
-rule-known a lengths list i =
-    either Known (breaksHead list i) 21 _ (rule 21 (omega arith) (omega arith))
-    (either Known (anyPlace (breaksShapeAt list i)) 22 _ (rule 22 (omega arith) (omega arith))
-    (either Known (anyPlace (λ place. breaksPlace (opcodeAt list i) place (varnodeAt list i place))) 23 _ (rule 23 (omega arith) (omega arith))
-    (either Known (anyPlace (λ place. breaksRange lengths (opcodeAt list i) place (varnodeAt list i place))) 24 _ (rule 24 (omega arith) (omega arith))
-    (either Known (breaksSize a (opcodeAt list i) (varnodeAt list i 0 .size) (varnodeAt list i 1 .size) (varnodeAt list i 2 .size)) 25 _ (rule 25 (omega arith) (omega arith))
-    (either Known (breaksTarget (operationCount list) i (opcodeAt list i) (varnodeAt list i 1)) 26 0 (rule 26 (omega arith) (omega arith)) none)))))
-
-first-known : (f : ℕ → ℕ) → ((i : ℕ) → Known (f i)) → (m i : ℕ) → Known (firstMalformed f m i .rule)
-unfolding firstMalformed
-first-known f h zero i = none
-first-known f h (suc m) i = either (λ (r : Malformed). Known (r .rule)) (eqb (f i) 0) _ _ (first-known f h m (i + 1)) (h i)
-
-found-known : (a : ℕ) (lengths : Lengths) (list : List ℕ) → Known (malformed a lengths list .rule)
-unfolding malformed
-found-known a lengths list = first-known _ (rule-known a lengths list) (operationCount list) 0
-
-not-other : {n : ℕ} → Known n → member n (10 ∷ 11 ∷ 12 ∷ 27 ∷ []) ≡ false
+not-other : {n : ℕ} → Known 21 26 n → member n (10 ∷ 11 ∷ 12 ∷ 27 ∷ []) ≡ false
 unfolding member
 not-other none = refl
-not-other (rule n l h) =
+not-other (known n l h) =
     rw (ne-eqb n 10 (λ e. omega arith), ne-eqb n 11 (λ e. omega arith), ne-eqb n 12 (λ e. omega arith), ne-eqb n 27 (λ e. omega arith)) refl
 
-not-leak : {n : ℕ} → Known n → (n ≡ 31 → ⊥) × (n ≡ 12 → ⊥)
+not-leak : {n : ℕ} → Known 21 26 n → (n ≡ 31 → ⊥) × (n ≡ 12 → ⊥)
 not-leak none = (λ e. omega arith, λ e. omega arith)
-not-leak (rule n l h) = (λ e. omega arith, λ e. omega arith)
+not-leak (known n l h) = (λ e. omega arith, λ e. omega arith)
 
 no-index : (settings : Settings) (lengths : Lengths) (list : List ℕ) (start : ℕ) (fitting valid : Bool)
     → member (refusal settings lengths list start fitting valid .ending) (10 ∷ 11 ∷ 12 ∷ 27 ∷ []) ≡ true
@@ -204,7 +180,7 @@ unfolding plainRun called outcomeOf
 never-leaks settings list start budget log m =
     let at = starting start (length log) in
     either (λ (o : Outcome). (o .report .ending ≡ 31 → ⊥) × (o .report .ending ≡ 12 → ⊥)) (eqb (refusal settings (lengthsOf m) list start true true .ending) 0) _ _
-    (run-public (programOf settings list) budget at m, λ e. run-counts (programOf settings list) budget at unlabelled m .ending (omega arith) (omega arith))
+    (run-public (programOf settings list) budget at m, λ e. not-refused (run-laws (programOf settings list) .counts budget at unlabelled m .ending) (omega arith) (omega arith))
     (plain-refusals settings (lengthsOf m) list start)
 
 pub pinned : Pinned

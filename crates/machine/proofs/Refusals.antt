@@ -1,5 +1,5 @@
 -- The refusals before anything runs.
-use Prim.Native.Nat.{ℕ, zero, suc, _+_, _<_}
+use Prim.Native.Nat.{ℕ, zero, suc, _+_, _≤_, _<_}
 use native.Mathlib.Omega.{arith}
 use mathlib.Core.Path.{_≡_, refl}
 use mathlib.Core.Bool.{Bool, true, false, cond, not, _&&_}
@@ -16,46 +16,51 @@ use Rattle.validation.specs.Verdict.{settingsInRange, lengthsInRange, anyPlace,
 use Rattle.machine.specs.Calls.{refusal}
 use Rattle.machine.proofs.Cases.{either}
 
--- ---- no refusal is numbered 2
+-- ---- the numbers of the refusals
 
-not-two : (c : Bool) (a b : ℕ) → (a ≡ 2 → ⊥) → (b ≡ 2 → ⊥) → cond c a b ≡ 2 → ⊥
-not-two true a b p q = p
-not-two false a b p q = q
+-- 0, where nothing is refused; or a number in a range
+pub data Known (low high : ℕ) : ℕ → Type 0 where
+  none : Known low high 0
+  known : (n : ℕ) → low ≤ n → n ≤ high → Known low high n
 
-rule-not-two : (a : ℕ) (lengths : Lengths) (list : List ℕ) (i : ℕ) → lowestRule a lengths list i ≡ 2 → ⊥
+-- the rules are 21 to 26
+rule-known : (a : ℕ) (lengths : Lengths) (list : List ℕ) (i : ℕ) → Known 21 26 (lowestRule a lengths list i)
 unfolding lowestRule sizeOrTarget
-rule-not-two a lengths list i =
-    not-two (breaksHead list i) 21 _ (λ h. omega arith)
-    (not-two (anyPlace (breaksShapeAt list i)) 22 _ (λ h. omega arith)
-    (not-two (anyPlace (λ place. breaksPlace (opcodeAt list i) place (varnodeAt list i place))) 23 _ (λ h. omega arith)
-    (not-two (anyPlace (λ place. breaksRange lengths (opcodeAt list i) place (varnodeAt list i place))) 24 _ (λ h. omega arith)
-    (not-two (breaksSize a (opcodeAt list i) (varnodeAt list i 0 .size) (varnodeAt list i 1 .size) (varnodeAt list i 2 .size)) 25 _ (λ h. omega arith)
-    (not-two (breaksTarget (operationCount list) i (opcodeAt list i) (varnodeAt list i 1)) 26 0 (λ h. omega arith) (λ h. omega arith))))))
+rule-known a lengths list i =
+    either (Known 21 26) (breaksHead list i) 21 _ (known 21 (omega arith) (omega arith))
+    (either (Known 21 26) (anyPlace (breaksShapeAt list i)) 22 _ (known 22 (omega arith) (omega arith))
+    (either (Known 21 26) (anyPlace (λ place. breaksPlace (opcodeAt list i) place (varnodeAt list i place))) 23 _ (known 23 (omega arith) (omega arith))
+    (either (Known 21 26) (anyPlace (λ place. breaksRange lengths (opcodeAt list i) place (varnodeAt list i place))) 24 _ (known 24 (omega arith) (omega arith))
+    (either (Known 21 26) (breaksSize a (opcodeAt list i) (varnodeAt list i 0 .size) (varnodeAt list i 1 .size) (varnodeAt list i 2 .size)) 25 _ (known 25 (omega arith) (omega arith))
+    (either (Known 21 26) (breaksTarget (operationCount list) i (opcodeAt list i) (varnodeAt list i 1)) 26 0 (known 26 (omega arith) (omega arith)) none)))))
 
-first-not-two : (f : ℕ → ℕ) → ((i : ℕ) → f i ≡ 2 → ⊥) → (m i : ℕ) → firstMalformed f m i .rule ≡ 2 → ⊥
+first-known : (f : ℕ → ℕ) → ((i : ℕ) → Known 21 26 (f i)) → (m i : ℕ) → Known 21 26 (firstMalformed f m i .rule)
 unfolding firstMalformed
-first-not-two f h zero i e = omega arith
-first-not-two f h (suc m) i e = by (eqb (f i) 0) (firstMalformed f m (i + 1)) (first-not-two f h m (i + 1)) e
-  where
-    by : (t : Bool) (r : Malformed) → (r .rule ≡ 2 → ⊥) → cond t r (record { rule = f i; index = i }) .rule ≡ 2 → ⊥
-    by true r q = q
-    by false r q = h i
+first-known f h zero i = none
+first-known f h (suc m) i = either (λ (r : Malformed). Known 21 26 (r .rule)) (eqb (f i) 0) _ _ (first-known f h m (i + 1)) (h i)
 
--- a report of a call in which nothing ran, and which was not stopped by BUDGET
+pub found-known : (a : ℕ) (lengths : Lengths) (list : List ℕ) → Known 21 26 (malformed a lengths list .rule)
+unfolding malformed
+found-known a lengths list = first-known _ (rule-known a lengths list) (operationCount list) 0
+
+-- a report of a call in which nothing ran: its ending is 0 or a refusal's, 10 to 27
 pub data Refuses : Report → Type 0 where
-  refuses : (ending index : ℕ) → (ending ≡ 2 → ⊥) → Refuses (refusalReport ending index)
+  refuses : (ending index : ℕ) → Known 10 27 ending → Refuses (refusalReport ending index)
+
+wider : {n : ℕ} → Known 21 26 n → Known 10 27 n
+wider none = none
+wider (known n l h) = known n (omega arith) (omega arith)
 
 pub refusal-refuses : (settings : Settings) (lengths : Lengths) (list : List ℕ) (start : ℕ) (fitting valid : Bool)
     → Refuses (refusal settings lengths list start fitting valid)
-unfolding refusal malformed
+unfolding refusal
 refusal-refuses settings lengths list start fitting valid =
-    let rule = lowestRule (settings .«address_size») lengths list in
-    let found = firstMalformed rule (operationCount list) 0 in
-    either Refuses (not (settingsInRange settings)) _ _ (refuses 10 0 (λ h. omega arith))
-    (either Refuses (not (lengthsInRange lengths list && fitting)) _ _ (refuses 11 0 (λ h. omega arith))
-    (either Refuses (not valid) _ _ (refuses 12 0 (λ h. omega arith))
-    (either Refuses (not (eqb (found .rule) 0)) _ _ (refuses (found .rule) (found .index) (first-not-two rule (rule-not-two (settings .«address_size») lengths list) (operationCount list) 0))
-    (either Refuses (ltb (operationCount list) start) _ _ (refuses 27 0 (λ h. omega arith)) (refuses 0 0 (λ h. omega arith))))))
+    let found = malformed (settings .«address_size») lengths list in
+    either Refuses (not (settingsInRange settings)) _ _ (refuses 10 0 (known 10 (omega arith) (omega arith)))
+    (either Refuses (not (lengthsInRange lengths list && fitting)) _ _ (refuses 11 0 (known 11 (omega arith) (omega arith)))
+    (either Refuses (not valid) _ _ (refuses 12 0 (known 12 (omega arith) (omega arith)))
+    (either Refuses (not (eqb (found .rule) 0)) _ _ (refuses (found .rule) (found .index) (wider (found-known (settings .«address_size») lengths list)))
+    (either Refuses (ltb (operationCount list) start) _ _ (refuses 27 0 (known 27 (omega arith) (omega arith))) (refuses 0 0 none)))))
 
 pub refusal-report : {r : Report} → Refuses r → (r .executed ≡ 0) × (r .logged ≡ 0) × (r .value ≡ 0)
 unfolding refusalReport
@@ -63,7 +68,8 @@ refusal-report (refuses e i h) = (refl, refl, refl)
 
 pub not-stopped : {r : Report} → Refuses r → r .ending ≡ 2 → ⊥
 unfolding refusalReport
-not-stopped (refuses e i h) = h
+not-stopped (refuses e i none) z = omega (arith, z)
+not-stopped (refuses e i (known n l h)) z = omega (arith, l, z)
 
 -- ---- what is not refused at one start is not refused at another within the list
 

@@ -11,14 +11,14 @@ use Rattle.operation.specs.declared.layout.Settings.{Settings}
 use Rattle.operation.specs.declared.layout.Lengths.{Lengths}
 use Rattle.operation.specs.declared.report.Report.{Report}
 use Rattle.validation.specs.Verdict.{refusalReport}
-use Rattle.machine.specs.Program.{programOf}
+use Rattle.machine.specs.Program.{Program, programOf}
 use Rattle.machine.specs.Memory.{Memory, lengthsOf}
 use Rattle.machine.specs.Run.{Position, Ended, run, ended}
 use Rattle.machine.specs.Calls.{Outcome, sameLengths, labelsInRange, refusal, logAfter, outcomeOf, starting, called, labelledRun, unlabelled, plainRun}
 use Rattle.machine.specs.Resume.{Summed, unused, PlainResumes, LabelledResumes}
-use Rattle.machine.proofs.Budget.{later, laterEnded, fresh, run-index, run-resumed}
+use Rattle.machine.proofs.Budget.{later, laterEnded, fresh}
 use Rattle.machine.proofs.Refusals.{refusal-refuses, not-stopped, restarted, accepted-labels}
-use Rattle.machine.proofs.Kept.{started-kept}
+use Rattle.machine.proofs.Runs.{Runs, run-laws, resumed, started-kept}
 
 -- ---- the log
 
@@ -51,6 +51,18 @@ room-left log at e =
     let left : length log - length (at .log) ≡ at .room = omega (arith, e) in
     rw (drop-append-seam (at .log) (drop (length (at .log)) log), length-drop (length (at .log)) log, left)
 
+-- ---- the run
+
+pub outcome-resumed : {program : Program} {R : ℕ → Position → Memory → Memory → Ended} → Runs program R
+    → (start b c : ℕ) (log : List ℕ) (labels m : Memory) → (let r = R b (starting start (length log)) labels m in
+    let left = drop (length (r .position .log)) (logAfter (r .position .log) log) in
+    r .ending ≡ 2
+    → Summed (outcomeOf log r) (outcomeOf left (R c (starting (r .position .index) (length left)) (r .labels) (r .memory))) (outcomeOf log (R (b + c) (starting start (length log)) labels m)))
+outcome-resumed {R} laws start b c log labels m e =
+    let r = R b (starting start (length log)) labels m in
+    rw (room-left log (r .position) (started-kept laws start b log labels m .log), resumed laws b c (starting start (length log)) labels m e)
+    (outcome-summed log r (R c (fresh (r .position)) (r .labels) (r .memory)))
+
 -- ---- the calls
 
 called-running : (settings : Settings) (list : List ℕ) (start budget : ℕ) (log : List ℕ) (labels m : Memory)
@@ -64,17 +76,13 @@ module _ (settings : Settings) (list : List ℕ) (start b c : ℕ) (log : List �
   whole budget = run (programOf settings list) budget (starting start (length log)) labels m
 
   -- a second call that is not refused
-  resumed-run : whole b .ending ≡ 2 → whole b .position .room + length (whole b .position .log) ≡ length log
+  resumed-run : whole b .ending ≡ 2
       → Summed (outcomeOf log (whole b))
       (called settings list (whole b .position .index) c (drop (length (whole b .position .log)) (logAfter (whole b .position .log) log)) (whole b .labels) (whole b .memory) (refusalReport 0 0))
       (outcomeOf log (whole (b + c)))
-  resumed-run e k =
-      rw (
-        called-running settings list (whole b .position .index) c (drop (length (whole b .position .log)) (logAfter (whole b .position .log) log)) (whole b .labels) (whole b .memory),
-        room-left log (whole b .position) k,
-        run-resumed (programOf settings list) b c (starting start (length log)) labels m e,
-      )
-      (outcome-summed log (whole b) (run (programOf settings list) c (fresh (whole b .position)) (whole b .labels) (whole b .memory)))
+  resumed-run e =
+      rw (called-running settings list (whole b .position .index) c (drop (length (whole b .position .log)) (logAfter (whole b .position .log) log)) (whole b .labels) (whole b .memory))
+      (outcome-resumed (run-laws (programOf settings list)) start b c log labels m e)
 
 pub labelled-resumes : LabelledResumes
 unfolding labelledRun called outcomeOf
@@ -95,11 +103,11 @@ labelled-resumes settings list start b c log labels m = by (eqb (refused .ending
         (cond t (runs (b + c)) lent)
     by true t e =
         let r = run (programOf settings list) b (starting start (length log)) labels m in
-        let i = run-index (programOf settings list) b (starting start (length log)) labels m e in
+        let i = run-laws (programOf settings list) .index b (starting start (length log)) labels m e in
         let again = restarted settings (lengthsOf m) list start (r .position .index) (sameLengths (lengthsOf labels) (lengthsOf m)) (labelsInRange labels) t i in
-        let k = started-kept (programOf settings list) start b log labels m in
+        let k = started-kept (run-laws (programOf settings list)) start b log labels m in
         let valid = accepted-labels settings (lengthsOf m) list start (sameLengths (lengthsOf labels) (lengthsOf m)) (labelsInRange labels) t in
-        rw (k .memory, k .lengths, k .values valid, again) (resumed-run settings list start b c log labels m e (k .log))
+        rw (k .memory, k .lengths, k .values valid, again) (resumed-run settings list start b c log labels m e)
     by false t e = absurd (not-stopped (refusal-refuses settings (lengthsOf m) list start (sameLengths (lengthsOf labels) (lengthsOf m)) (labelsInRange labels)) e)
 
 no-length : (l : List ℕ) → length l ≡ 0 → l ≡ []
@@ -135,10 +143,10 @@ plain-resumes settings list start b c log m = by (eqb (refused .ending) 0) refl
         (cond t (runs (b + c)) lent)
     by true t e =
         let r = run (programOf settings list) b (starting start (length log)) unlabelled m in
-        let i = run-index (programOf settings list) b (starting start (length log)) unlabelled m e in
+        let i = run-laws (programOf settings list) .index b (starting start (length log)) unlabelled m e in
         let again = restarted settings (lengthsOf m) list start (r .position .index) true true t i in
-        let k = started-kept (programOf settings list) start b log unlabelled m in
-        let s = resumed-run settings list start b c log unlabelled m e (k .log) in
+        let k = started-kept (run-laws (programOf settings list)) start b log unlabelled m in
+        let s = resumed-run settings list start b c log unlabelled m e in
         rw (k .memory, again)
         (subst (λ (l : Memory). Summed (runs b)
         (called settings list (r .position .index) c (drop (length (r .position .log)) (logAfter (r .position .log) log)) l (r .memory) (refusalReport 0 0)) (runs (b + c)))

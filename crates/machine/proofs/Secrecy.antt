@@ -110,7 +110,7 @@ module _ {labels m n : Memory} (r : Spaces Public labels m n) where
       let e = neither (anySecret (bytesAt labels v)) (secret labels vs) h in
       rw (public-value settings v (e .0), public-values settings vs (e .1))
 
-  public-tested : (settings : Settings) (k : Kind) (op : Operation) → secret labels (sinks k op) ≡ false
+  pub public-tested : (settings : Settings) (k : Kind) (op : Operation) → secret labels (sinks k op) ≡ false
       → valueAt settings m (tested k op) ≡ valueAt settings n (tested k op)
   public-tested settings k op h = public-value settings (tested k op) (tested-public labels k op h)
 
@@ -130,12 +130,12 @@ module _ {labels m n : Memory} (r : Spaces Public labels m n) where
       (l ∙ sym (length-written settings op size vs n)) (public-written settings op size vs) in
       rw l at w
 
-data SameSteps : Stepped → Stepped → Type 0 where
+pub data SameSteps : Stepped → Stepped → Type 0 where
   halts : {r q : Ended} → SameView r q → SameSteps (Stepped.halted r) (Stepped.halted q)
   goes : {at : Position} {labels m n : Memory} → Spaces Public labels m n → SameSteps (Stepped.going at labels m) (Stepped.going at labels n)
 
 module _ (program : Program) {labels m n : Memory} (r : Spaces Public labels m n) where
-  ended-view : (e v : ℕ) (at : Position) → SameView (ended e v at labels m) (ended e v at labels n)
+  pub ended-view : (e v : ℕ) (at : Position) → SameView (ended e v at labels m) (ended e v at labels n)
   unfolding ended
   ended-view e v at = record { ending = refl; value = refl; position = refl; labels = refl; memory = r }
 
@@ -159,13 +159,13 @@ module _ (program : Program) {labels m n : Memory} (r : Spaces Public labels m n
       rw (each-length (spaces-space r (op .input0 .offset)))
       (decided-view (secret labels (sinks k op)) k op at _ _ _ _ _ (λ e. ap (resolved (program .settings) k op) (public-tested r (program .settings) k op e)))
 
-  stepped-view : (at : Position) → SameSteps (stepped program at labels m) (stepped program at labels n)
+  pub stepped-view : (at : Position) → SameSteps (stepped program at labels m) (stepped program at labels n)
   unfolding stepped execute
   stepped-view at = either₂ SameSteps (ltb (at .index) (operationCount (program .list))) _ _ _ _ (execute-view _ (operationAt (program .list) (at .index)) at) (halts (ended-view 0 0 at))
 
 -- ---- the run
 
-continued-view : (f : Position → Memory → Memory → Ended) → ((at : Position) (labels m n : Memory) → Spaces Public labels m n → SameView (f at labels m) (f at labels n))
+pub continued-view : (f : Position → Memory → Memory → Ended) → ((at : Position) (labels m n : Memory) → Spaces Public labels m n → SameView (f at labels m) (f at labels n))
     → {a b : Stepped} → SameSteps a b → SameView (continued f a) (continued f b)
 unfolding continued
 continued-view f h (halts t) = t

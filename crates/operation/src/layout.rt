@@ -119,7 +119,7 @@ pub fn absent() -> Varnode
 }
 
 // A descriptor is space * 16 + size.
-pub(crate) fn described_by(descriptor: u64, offset: u64) -> Varnode
+pub fn described_by(descriptor: u64, offset: u64) -> Varnode
     ensures { λ r. ⌜ r ≡ describedBy descriptor offset ⌝ }
 {
     Varnode {

@@ -86,7 +86,7 @@ pub fn run_any(
 }
 
 // The budget of a turn, one operation or all of them. It is the same for each: a run goes on only with budget left.
-fn turn(labelled: bool, budget: u64) -> u64
+pub fn turn(labelled: bool, budget: u64) -> u64
     ensures { λ r. ⌜ r ≡ turnOf labelled budget ⌝ }
 {
     if both(labelled, 0 < budget) {

@@ -2,10 +2,11 @@
 use Prim.Native.Nat.{ℕ, zero, suc, _+_, _≤_}
 use mathlib.Core.Path.{_≡_, refl, sym, subst}
 use mathlib.Core.Logic.{_⊎_, inl, inr, ⊎-elim}
-use mathlib.Core.Bool.{Bool, false}
+use mathlib.Core.Bool.{Bool, false, cond}
 use mathlib.Core.List.{List}
 use native.Mathlib.Omega.{arith}
 use borrow.Author.Tests.{eq-eqb, ne-eqb}
+use lib.Dec.{eqb}
 use lib.ListN.{length}
 use lib.Seq.{sets}
 use Rattle.word.specs.Sum.{sum, tabulate}
@@ -47,6 +48,10 @@ module _ (m : Memory) (v : Varnode) (h : 2 ≤ v .space) (bytes : List ℕ) (e :
       → valueOf big (part bytes (v .offset) (v .size)) ≡ valueAt settings m v
   value-gathered settings big b = rw (e, ← b) (sym (value-in m v (v .space) refl h settings))
 
+  pub number-gathered : (big : Bool) → valueOf big (part bytes (v .offset) (v .size)) ≡ cond (eqb (v .space) 1) (v .offset) (valueOf big (bytesAt m v))
+  unfolding bytesAt
+  number-gathered big = rw (e, ne-eqb (v .space) 1 (λ z. omega arith)) refl
+
 -- ---- in none of the three spaces: a constant, or absent
 
 module _ (m : Memory) (v : Varnode) (not2 : v .space ≡ 2 → ⊥) (not3 : v .space ≡ 3 → ⊥) (not4 : v .space ≡ 4 → ⊥) where
@@ -61,6 +66,10 @@ module _ (m : Memory) (v : Varnode) (not2 : v .space ≡ 2 → ⊥) (not3 : v .s
   pub value-elsewhere : Placed m v → (settings : Settings) → valueAt settings m v ≡ v .offset
   unfolding valueAt bytesAt part valueOf sum tabulate absent
   value-elsewhere p settings = ⊎-elim (λ e. rw (eq-eqb (v .space) 1 e)) (λ e. rw e) (elsewhere p)
+
+  pub number-elsewhere : Placed m v → (big : Bool) → cond (eqb (v .space) 1) (v .offset) (valueOf big (bytesAt m v)) ≡ v .offset
+  unfolding bytesAt part valueOf sum tabulate absent
+  number-elsewhere p big = ⊎-elim (λ e. rw (eq-eqb (v .space) 1 e)) (λ e. rw e) (elsewhere p)
 
   pub secret-elsewhere : Placed m v → hasSecret m v ≡ false
   unfolding hasSecret bytesAt part tabulate anySecret absent

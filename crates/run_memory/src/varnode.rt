@@ -1,11 +1,13 @@
 // The value of a varnode, read from and written to the three lent spaces.
 ghost use mathlib.Core.Path.{_≡_};
+ghost use mathlib.Core.Bool.{cond};
 ghost use Prim.Native.Nat.{_+_, _≤_};
+ghost use lib.Dec.{eqb};
 ghost use lib.ListN.{length};
 ghost use lib.Seq.{sets};
-ghost use Rattle.word.specs.Word.{bytesOf};
+ghost use Rattle.word.specs.Word.{valueOf, bytesOf};
 ghost use Rattle.machine.specs.Program.{bigEndian};
-ghost use Rattle.machine.specs.Memory.{spaces, valueAt, written};
+ghost use Rattle.machine.specs.Memory.{spaces, bytesAt, valueAt, written};
 ghost use Rattle.run_memory.specs.Placed.{Placed};
 use super::space::space_of;
 use operation::layout::Settings;
@@ -85,6 +87,24 @@ pub fn read_moved<'a>(
     } else {
         gather(false, bytes, at, size)
     }
+}
+
+// The number that the bytes of a varnode make in a byte order; an absent one has 0, a constant its offset. For readers beside the plan.
+pub fn value_at<'a>(
+    big: bool,
+    unique: &'a [u8],
+    register: &'a [u8],
+    ram: &'a [u8],
+    v: Varnode,
+) -> u64
+    requires { ⌜ Placed (spaces (now unique) (now register) (now ram)) v ⌝ }
+    ensures { λ r. ⌜ r ≡ cond (eqb (v .space) 1) (v .offset) (valueOf big (bytesAt (spaces (now (unique .entry)) (now (register .entry)) (now (ram .entry))) v)) ⌝ }
+{
+    if v.space < 2 {
+        return v.offset;
+    }
+    let bytes = space_of(unique, register, ram, v.space);
+    gather(big, bytes, v.offset as usize, v.size as usize)
 }
 
 // Writes a value to a varnode; to an absent one, nothing.

@@ -12,7 +12,7 @@ use Rattle.integer.proofs.Booleans.{both, neither, flag-lt}
 use Rattle.arithmetic.specs.Opcodes.{member}
 use Rattle.operation.specs.declared.layout.Varnode.{Varnode}
 use Rattle.operation.specs.Layout.{operationCount, varnodeAt, absent}
-use Rattle.operation.specs.Rules.{accesses, branches}
+use Rattle.operation.specs.Rules.{accesses, branches, relativeTarget}
 use Rattle.validation.specs.Verdict.{mostBytes}
 use Rattle.validation.specs.WellFormed.{WellFormed}
 use Rattle.machine.specs.Program.{Program}
@@ -74,18 +74,19 @@ module _ (program : Program) (m : Memory) (i : ℕ) (v : Valid (lengthsOf m) (pr
   abbrev InList : ℕ → Type 0
   InList n = n ≤ operationCount (program .list)
 
-  -- a relative target of a well-formed branch
-  target-within : Words (program .list) → OfBytes m → branches (op .opcode) ≡ true → eqb (op .input0 .space) 1 ≡ true
-      → InList ((i + op .input0 .offset) % 2 ^ 64)
+  -- a relative target of a well-formed branch is the sum modulo 2^64, and in the list
+  pub relative-target : Words (program .list) → OfBytes m → branches (op .opcode) ≡ true → eqb (op .input0 .space) 1 ≡ true
+      → (indexOf (relativeTarget i (op .input0 .offset)) ≡ (i + op .input0 .offset) % 2 ^ 64) × InList ((i + op .input0 .offset) % 2 ^ 64)
   unfolding operationAt indexOf
-  target-within words bytes k s =
+  relative-target words bytes k s =
       let small = few-operations (lengthsOf m) (program .list) (v .inRange) in
       by (formed (program .settings) (v .addressSize) (program .list) i m words bytes small w .branchTo k)
     where
-      by : Destination i (varnodeAt (program .list) i 1) → InList ((i + varnodeAt (program .list) i 1 .offset) % 2 ^ 64)
+      by : Destination i (varnodeAt (program .list) i 1) → (let t = (i + varnodeAt (program .list) i 1 .offset) % 2 ^ 64 in
+          (indexOf (relativeTarget i (varnodeAt (program .list) i 1 .offset)) ≡ t) × InList t)
       by (Destination.inList s1 s4 e) =
           let t = w .target k (eqb-true (varnodeAt (program .list) i 1 .space) 1 s) in
-          rw (← e, t .2) (t .1)
+          (e, rw (← e, t .2) (t .1))
       by (Destination.inRam s1 s4) = absurd (let z : _≡_ {A = ℕ} 0 1 = cc in omega arith)
 
   next-index : Words (program .list) → OfBytes m → (b : ℕ) → InList (nextIndex op i b)
@@ -93,7 +94,7 @@ module _ (program : Program) (m : Memory) (i : ℕ) (v : Valid (lengthsOf m) (pr
   next-index words bytes b =
       by-cond InList (branchTaken op b && eqb (op .input0 .space) 1) _ _
       (λ k. let t = both (branchTaken op b) (eqb (op .input0 .space) 1) k in
-      target-within words bytes (taken-branches (op .opcode) (not (eqb b 0)) (t .0)) (t .1))
+      relative-target words bytes (taken-branches (op .opcode) (not (eqb b 0)) (t .0)) (t .1) .1)
       (λ k. omega arith)
 
   pub next-within : Words (program .list) → OfBytes m → (a b : ℕ) → Within (planned program m op i a b)

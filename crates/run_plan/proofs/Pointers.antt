@@ -52,34 +52,38 @@ near-small pointer length = by (ltb pointer length) refl
     by true e = let l = ltb-true pointer length e in omega arith
     by false e = omega arith
 
+-- the product is small
+pub product-small : (pointer length near wordsize : ℕ) → near ≡ cond (ltb pointer length) pointer length → length ≤ mostBytes → wordsize ≤ 8
+    → near * wordsize ≤ mostBytes * 8
+product-small pointer length near wordsize e l w = mul-le-mul (le-trans (rw e (near-small pointer length)) l) w
+
 -- ---- as the code finds it: n is the opcode, and output, input0 and input2 are varnodes, that it decoded; `sized` is what is moved
 
-module _ (settings : Settings) (m : Memory) (op : Operation) (h : Addressable settings m op) (n : ℕ) (output input0 input2 sized : Varnode) (eo : n ≡ op .opcode)
-    (e : output ≡ op .output) (e0 : input0 ≡ op .input0) (e2 : input2 ≡ op .input2) (es : sized ≡ cond (eqb n 2) output input2)
-    (pointer near wordsize extent : ℕ) (ew : wordsize ≡ wordsizeOf (settings .wordsizes) (input0 .offset))
-    (ee : extent ≡ lengthOf (lengthsOf m) (input0 .offset)) (en : near ≡ cond (ltb pointer extent) pointer extent) where
-  wordsize-fits : (1 ≤ wordsize) × (wordsize ≤ 8)
-  wordsize-fits = rw (ew, e0) (h .wordsize)
+module _ (settings : Settings) (m : Memory) (op : Operation) (h : Addressable settings m op) where
+  -- what the code asks for its product
+  pub may-multiply : (input0 : Varnode) → input0 ≡ op .input0 → (extent : ℕ) → extent ≡ lengthOf (lengthsOf m) (input0 .offset)
+      → (extent ≤ mostBytes) × (wordsizeOf (settings .wordsizes) (input0 .offset) ≤ 8)
+  may-multiply input0 e0 extent ee = (rw (ee, e0, space-length m (op .input0 .offset)) (h .extent), rw e0 (h .wordsize .1))
 
-  extent-fits : extent ≤ mostBytes
-  extent-fits = rw (ee, e0, space-length m (op .input0 .offset)) (h .extent)
+  module _ (n : ℕ) (output input0 input2 sized : Varnode) (eo : n ≡ op .opcode)
+      (e : output ≡ op .output) (e0 : input0 ≡ op .input0) (e2 : input2 ≡ op .input2) (es : sized ≡ cond (eqb n 2) output input2)
+      (pointer extent offset : ℕ) (ee : extent ≡ lengthOf (lengthsOf m) (input0 .offset))
+      (en : offset ≡ cond (ltb pointer extent) pointer extent * wordsizeOf (settings .wordsizes) (input0 .offset)) where
+    abbrev wordsize : ℕ
+    wordsize = wordsizeOf (settings .wordsizes) (input0 .offset)
 
-  some : 1 ≤ sized .size
-  some = rw (es, eo, e, e2) (h .some)
+    some-wordsize : 1 ≤ wordsize
+    some-wordsize = rw e0 (h .wordsize .0)
 
-  -- the product is small
-  pub product-small : near * wordsize ≤ mostBytes * 8
-  product-small = mul-le-mul (le-trans (rw en (near-small pointer extent)) extent-fits) (wordsize-fits .1)
+    some : 1 ≤ sized .size
+    some = rw (es, eo, e, e2) (h .some)
 
-  -- the bytes fit there exactly where they fit at the byte offset
-  pub product-fits : leb (near * wordsize + sized .size) extent ≡ leb (byteOffset settings op pointer + sized .size) extent
-  unfolding byteOffset
-  product-fits = rw (en, near-fits pointer wordsize (sized .size) extent (wordsize-fits .0) some, ew, e0) refl
+    -- the bytes fit there exactly where they fit at the byte offset
+    pub product-fits : leb (offset + sized .size) extent ≡ leb (byteOffset settings op pointer + sized .size) extent
+    unfolding byteOffset
+    product-fits = rw (en, near-fits pointer wordsize (sized .size) extent some-wordsize some, e0) refl
 
-  -- and where they do it is the byte offset
-  pub product-is : leb (near * wordsize + sized .size) extent ≡ true → near * wordsize ≡ byteOffset settings op pointer
-  unfolding byteOffset
-  product-is f =
-      ap (λ (n : ℕ). n * wordsize) en
-      ∙ near-is pointer wordsize (sized .size) extent (wordsize-fits .0) some (rw en at f)
-      ∙ rw (ew, e0) refl
+    -- and where they do it is the byte offset
+    pub product-is : leb (offset + sized .size) extent ≡ true → offset ≡ byteOffset settings op pointer
+    unfolding byteOffset
+    product-is f = en ∙ near-is pointer wordsize (sized .size) extent some-wordsize some (rw en at f) ∙ rw e0 refl

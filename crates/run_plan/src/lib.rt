@@ -2,11 +2,11 @@
 ghost use mathlib.Core.Path.{_≡_};
 ghost use Prim.Native.Nat.{_+_, _*_, _≤_, _<_};
 ghost use mathlib.Core.Bool.{true, cond};
-ghost use lib.Dec.{eqb};
+ghost use lib.Dec.{eqb, ltb};
 ghost use lib.ListN.{length};
-ghost use Rattle.operation.specs.Layout.{wordsPerOperation, operationCount};
+ghost use Rattle.operation.specs.Layout.{wordsizeOf, wordsPerOperation, operationCount};
 ghost use Rattle.operation.specs.Rules.{accesses, branches};
-ghost use Rattle.validation.specs.Verdict.{mostOperations, settingsInRange};
+ghost use Rattle.validation.specs.Verdict.{mostOperations, mostBytes, settingsInRange};
 ghost use Rattle.machine.specs.Program.{programOf};
 ghost use Rattle.machine.specs.Memory.{spaces, lengthsOf, valueAt};
 ghost use Rattle.machine.specs.Effect.{operationAt, byteOffset};
@@ -125,8 +125,17 @@ fn choose(first: bool, a: Varnode, b: Varnode) -> Varnode
     if first { a } else { b }
 }
 
-// LOAD and STORE at a pointer: one read and one write, from or to the bytes at its byte offset. A pointer past the space counts as the
-// space's length, which is past it too: so no product is large. docs/DECISIONS.md has the other ways that were measured.
+// The byte offset of a pointer into a space of `length` bytes. A pointer past the space counts as the space's length, which is past it
+// too: so no product is large. docs/DECISIONS.md has the other ways that were measured.
+pub fn offset_in(settings: Settings, space: u64, length: u64, pointer: u64) -> u64
+    requires { ⌜ (length ≤ mostBytes) × (wordsizeOf (settings .wordsizes) space ≤ 8) ⌝ }
+    ensures { λ r. ⌜ r ≡ cond (ltb pointer length) pointer length * wordsizeOf (settings .wordsizes) space ⌝ }
+{
+    let near = pick(pointer < length, pointer, length);
+    near * wordsize_of(settings.wordsizes, space)
+}
+
+// LOAD and STORE at a pointer: one read and one write, from or to the bytes at its byte offset.
 fn move_at<'a>(
     settings: Settings,
     list: &[u64],
@@ -150,8 +159,7 @@ fn move_at<'a>(
     let space = input0.offset;
     let lengths = lengths_of(unique, register, ram);
     let length = length_of(lengths, space);
-    let near = pick(pointer < length, pointer, length);
-    let offset = near * wordsize_of(settings.wordsizes, space);
+    let offset = offset_in(settings, space, length, pointer);
     if !within(offset, moved.size, length) {
         return control(32, i, false, 0, 0);
     }

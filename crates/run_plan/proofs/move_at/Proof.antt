@@ -1,5 +1,4 @@
 -- `run_plan::move_at` meets its contract.
-use native.Mathlib.Omega.{arith}
 use mathlib.Core.Path.{ap, sym, _∙_}
 use borrow.Author.Needs.{needs}
 use borrow.Author.Tests.{not-false}
@@ -9,36 +8,33 @@ use Rattle.machine.specs.Program.{programOf}
 use Rattle.machine.specs.Effect.{operationAt}
 use Rattle.run_plan.specs.Plans.{movePlan}
 use Rattle.run_plan.proofs.Planning.{code-outside, may-read, code-moves}
-use Rattle.run_plan.proofs.Pointers.{product-small, product-fits, product-is}
+use Rattle.run_plan.proofs.Pointers.{may-multiply, product-fits, product-is}
 use Rattle.run_plan.proofs.move_at.Statement.{statement}
 use Rattle.run_plan.proofs.move_at.Tie as tie
 
-mul-offset : tie.Need-mul-offset
+offset-in-requires : tie.Need-offset-in-requires
 unfolding operationAt
-mul-offset c =
-    let measured = c .before .before in
-    let sized = measured .before .before in
+offset-in-requires c κs =
+    let sized = c .before .before in
     let input0 = sized .before .before .varnode-at2 .ensures in
     let decoded = sized .before .before .before .before in
     let entry = decoded .before .before .before .before in
-    let extent = measured .length-of .ensures ∙ ap (λ (l : Lengths). lengthOf l (sized .before .before .varnode-at2 .result .offset)) (measured .before .lengths-of .ensures) in
-    let l = product-small _ _ _ (entry .before .pre .3) _ _ _ _ _ (decoded .opcode-at .ensures) (sized .before .before .before .varnode-at .ensures)
-    input0 (sized .before .varnode-at3 .ensures) (sized .choose .ensures) _ _ _ _ (c .wordsize-of .ensures) extent (c .before .pick .ensures) in
-    record { fits = omega arith }
+    let extent = c .length-of .ensures ∙ ap (λ (l : Lengths). lengthOf l (sized .before .before .varnode-at2 .result .offset)) (c .before .lengths-of .ensures) in
+    may-multiply _ _ _ (entry .before .pre .3) _ input0 _ extent
 
 returns : tie.Need-returns
 unfolding operationAt
 returns c =
     let tested = c .before .before in
     let scaled = tested .before in
-    let measured = scaled .before .before in
+    let measured = scaled .before in
     let sized = measured .before .before in
     let input0 = sized .before .before .varnode-at2 .ensures in
     let decoded = sized .before .before .before .before in
     let entry = decoded .before .before .before .before in
     let extent = measured .length-of .ensures ∙ ap (λ (l : Lengths). lengthOf l (sized .before .before .varnode-at2 .result .offset)) (measured .before .lengths-of .ensures) in
     let fits = product-fits _ _ _ (entry .before .pre .3) _ _ _ _ _ (decoded .opcode-at .ensures) (sized .before .before .before .varnode-at .ensures)
-    input0 (sized .before .varnode-at3 .ensures) (sized .choose .ensures) _ _ _ _ (scaled .wordsize-of .ensures) extent (scaled .before .pick .ensures) in
+    input0 (sized .before .varnode-at3 .ensures) (sized .choose .ensures) _ _ _ extent (scaled .offset-in .ensures) in
     code-outside _ _ _ _ _ _ _ _ (decoded .opcode-at .ensures) (sized .before .before .before .varnode-at .ensures)
     input0 (sized .before .varnode-at3 .ensures) (sized .choose .ensures) (entry .before .pre .2) _ extent _ (tested .within .ensures ∙ fits)
     (programOf (entry .before .args .settings) _) _ _ (c .before .if1 .taken) (c .control .ensures)
@@ -47,7 +43,7 @@ read-moved-requires : tie.Need-read-moved-requires
 unfolding operationAt
 read-moved-requires c κs =
     let tested = c .before .before in
-    let measured = tested .before .before .before in
+    let measured = tested .before .before in
     let sized = measured .before .before in
     let decoded = sized .before .before .before .before in
     let entry = decoded .before .before .before .before in
@@ -59,7 +55,7 @@ read-moved-requires c κs =
 writes-requires : tie.Need-writes-requires
 writes-requires c κs =
     let tested = c .before .before .before .before in
-    let measured = tested .before .before .before in
+    let measured = tested .before .before in
     let sized = measured .before .before in
     let decoded = sized .before .before .before .before in
     let entry = decoded .before .before .before .before in
@@ -71,7 +67,7 @@ returns-2 c =
     let inside = c .before .before .before .before in
     let tested = inside .before in
     let scaled = tested .before in
-    let measured = scaled .before .before in
+    let measured = scaled .before in
     let sized = measured .before .before in
     let input0 = sized .before .before .varnode-at2 .ensures in
     let decoded = sized .before .before .before .before in
@@ -79,7 +75,7 @@ returns-2 c =
     let program = programOf (entry .before .args .settings) _ in
     let extent = measured .length-of .ensures ∙ ap (λ (l : Lengths). lengthOf l (sized .before .before .varnode-at2 .result .offset)) (measured .before .lengths-of .ensures) in
     let is = product-is _ _ _ (entry .before .pre .3) _ _ _ _ _ (decoded .opcode-at .ensures) (sized .before .before .before .varnode-at .ensures)
-    input0 (sized .before .varnode-at3 .ensures) (sized .choose .ensures) _ _ _ _ (scaled .wordsize-of .ensures) extent (scaled .before .pick .ensures)
+    input0 (sized .before .varnode-at3 .ensures) (sized .choose .ensures) _ _ _ extent (scaled .offset-in .ensures)
     (sym (tested .within .ensures) ∙ not-false _ (inside .if1 .left)) in
     code-moves _ _ _ _ _ _ _ _ (decoded .opcode-at .ensures) (sized .before .before .before .varnode-at .ensures)
     input0 (sized .before .varnode-at3 .ensures) (sized .choose .ensures) (entry .before .pre .2) _ extent _ (tested .within .ensures)
@@ -98,9 +94,7 @@ move-at-spec =
     (λ c κs. search needs)
     (λ c κs. search needs)
     (λ c κs. search needs)
-    (λ c κs. search needs)
-    (λ c κs. search needs)
-    mul-offset
+    offset-in-requires
     (λ c κs. search needs)
     (λ c κs. search needs)
     returns

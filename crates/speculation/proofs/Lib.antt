@@ -1,0 +1,12 @@
+pub mod Accepted
+pub mod Noninterference
+pub mod Below
+pub mod NoWindow
+pub mod Windows
+pub mod Runs
+pub mod Unrolling
+pub mod Aside
+pub mod Labelled
+pub mod Limits
+pub mod Resume
+pub mod Conditions

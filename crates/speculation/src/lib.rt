@@ -1,0 +1,1 @@
+// The speculative run has definitions and theorems here: see specs/ and proofs/.
