@@ -3,7 +3,7 @@
 ghost use mathlib.Core.Path.{_≡_};
 ghost use Rattle.validation.specs.Verdict.{verdict};
 ghost use Rattle.machine.specs.Memory.{spaces};
-ghost use Rattle.runs.specs.Promises.{RunPromise, LabelledRunPromise};
+ghost use Rattle.runs.specs.Promises.{RunPromise, LabelledRunPromise, SpeculativeRunPromise};
 ghost use Rattle.show.specs.Show.{view, shown};
 use operation::layout::Lengths;
 use operation::layout::Settings;
@@ -117,6 +117,45 @@ pub fn labelled_step(
         register_labels,
         ram_labels,
         log,
+    )
+}
+
+// A labelled run in which each CBRANCH first tries the way not taken, for at most `window` operations: paper 02's run with a window.
+pub fn speculative_run(
+    settings: Settings,
+    list: &[u64],
+    start: u64,
+    budget: u32,
+    window: u64,
+    unique: &mut [u8],
+    register: &mut [u8],
+    ram: &mut [u8],
+    unique_labels: &mut [u8],
+    register_labels: &mut [u8],
+    ram_labels: &mut [u8],
+    log: &mut [u64],
+    journal: &mut [u64],
+) -> Report
+    ensures { λ r. ⌜ SpeculativeRunPromise settings (now (list .entry)) start budget window
+        (spaces (now (unique .entry)) (now (register .entry)) (now (ram .entry)))
+        (spaces (now («unique_labels» .entry)) (now («register_labels» .entry)) (now («ram_labels» .entry))) (now (log .entry)) (now (journal .entry))
+        (spaces (now (unique .exit)) (now (register .exit)) (now (ram .exit)))
+        (spaces (now («unique_labels» .exit)) (now («register_labels» .exit)) (now («ram_labels» .exit))) (now (log .exit)) (now (journal .exit)) r ⌝ }
+{
+    runs::speculative_run(
+        settings,
+        list,
+        start,
+        budget,
+        window,
+        unique,
+        register,
+        ram,
+        unique_labels,
+        register_labels,
+        ram_labels,
+        log,
+        journal,
     )
 }
 

@@ -5,6 +5,7 @@ ghost use Prim.Native.Nat.{max};
 ghost use Rattle.validation.specs.Verdict.{settingsInRange, lengthsInRange};
 ghost use Rattle.machine.specs.Memory.{spaces, lengthsOf};
 ghost use Rattle.machine.specs.Calls.{sameLengths, allLabels, labelsInRange, refusal};
+ghost use Rattle.speculation.specs.Speculation.{speculativeRefusal};
 use integer::boolean::both;
 use integer::boolean::pick;
 use operation::layout::Lengths;
@@ -16,6 +17,12 @@ use validation::first_malformed;
 use validation::lengths_in_range;
 use validation::refusal_report;
 use validation::settings_in_range;
+
+// The largest window.
+const MOST_AHEAD: u64 = 64;
+
+// Words of the journal to an operation of the window.
+const JOURNAL_WORDS: u64 = 4;
 
 // The refusals of a plain run.
 pub fn plain_refusal(
@@ -38,11 +45,12 @@ pub fn plain_refusal(
     )
 }
 
-// The refusals of a labelled run.
+// The refusals of a labelled run; `lent` says that no other buffer calls for 11.
 pub fn labelled_refusal(
     settings: Settings,
     list: &[u64],
     start: u64,
+    lent: bool,
     unique: &[u8],
     register: &[u8],
     ram: &[u8],
@@ -51,7 +59,7 @@ pub fn labelled_refusal(
     ram_labels: &[u8],
 ) -> Report
     ensures { λ r. ⌜ r ≡ refusal settings (lengthsOf (spaces (now (unique .entry)) (now (register .entry)) (now (ram .entry)))) (now (list .entry)) start
-        (sameLengths (lengthsOf (spaces (now («unique_labels» .entry)) (now («register_labels» .entry)) (now («ram_labels» .entry))))
+        (lent && sameLengths (lengthsOf (spaces (now («unique_labels» .entry)) (now («register_labels» .entry)) (now («ram_labels» .entry))))
         (lengthsOf (spaces (now (unique .entry)) (now (register .entry)) (now (ram .entry)))))
         (labelsInRange (spaces (now («unique_labels» .entry)) (now («register_labels» .entry)) (now («ram_labels» .entry)))) ⌝ }
 {
@@ -61,7 +69,45 @@ pub fn labelled_refusal(
         lengths,
     );
     let valid = labels_in_range(unique_labels, register_labels, ram_labels);
-    refusal(settings, lengths, list, start, fitting, valid)
+    refusal(settings, lengths, list, start, both(lent, fitting), valid)
+}
+
+// The refusals of a speculative run with a journal of `words` words.
+pub fn speculative_refusal(
+    settings: Settings,
+    list: &[u64],
+    start: u64,
+    window: u64,
+    words: usize,
+    unique: &[u8],
+    register: &[u8],
+    ram: &[u8],
+    unique_labels: &[u8],
+    register_labels: &[u8],
+    ram_labels: &[u8],
+) -> Report
+    ensures { λ r. ⌜ r ≡ speculativeRefusal settings (lengthsOf (spaces (now (unique .entry)) (now (register .entry)) (now (ram .entry)))) (now (list .entry)) start
+        window words
+        (sameLengths (lengthsOf (spaces (now («unique_labels» .entry)) (now («register_labels» .entry)) (now («ram_labels» .entry))))
+        (lengthsOf (spaces (now (unique .entry)) (now (register .entry)) (now (ram .entry)))))
+        (labelsInRange (spaces (now («unique_labels» .entry)) (now («register_labels» .entry)) (now («ram_labels» .entry)))) ⌝ }
+{
+    if MOST_AHEAD < window {
+        return refusal_report(10, 0);
+    }
+    let needed = JOURNAL_WORDS * window;
+    labelled_refusal(
+        settings,
+        list,
+        start,
+        needed <= words as u64,
+        unique,
+        register,
+        ram,
+        unique_labels,
+        register_labels,
+        ram_labels,
+    )
 }
 
 // The refusals in their order, as a report; its ending is 0 where nothing is refused. `fitting` and `valid` say that no label calls

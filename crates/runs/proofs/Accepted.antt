@@ -2,7 +2,7 @@
 use Prim.Native.Nat.{ℕ, _≤_, _<_}
 use mathlib.Core.Bool.{Bool, true, false, cond, not, _&&_, true≢false}
 use mathlib.Core.List.{List}
-use mathlib.Core.Path.{_≡_, refl, sym}
+use mathlib.Core.Path.{_≡_, refl, sym, ap, _∙_}
 use native.Mathlib.Nat.{sub-zero}
 use native.Mathlib.Omega.{arith}
 use borrow.Author.Tests.{eq-eqb, ne-eqb, eqb-true, eqb-false, ltb-false, not-true, not-false}
@@ -21,9 +21,12 @@ use Rattle.machine.specs.Memory.{Memory, spaces, lengthsOf}
 use Rattle.machine.specs.Run.{run}
 use Rattle.machine.specs.Calls.{Outcome, unlabelled, plainOutcome, labelledOutcome, sameLengths, refusal, starting, outcomeOf, called}
 use Rattle.machine.proofs.Resume.{no-labels}
+use Rattle.speculation.specs.Speculation.{speculate, journalWords, speculativeRefusal, Speculation, speculation, journalAfter, calledAhead}
+use Rattle.speculation.proofs.Accepted.{ahead-accepted}
 use Rattle.run_plan.specs.Valid.{Valid}
 use Rattle.run_execution.specs.Loops.{position}
 use Rattle.run_labelled.specs.Turns.{Fitting}
+use Rattle.run_window.specs.Windows.{Spared}
 
 -- a refusal that was not called for, and the refusals after it
 not-refused : (t : Bool) (n i : ℕ) (rest : Report) → (t ≡ true → 0 < n) → cond t (refusalReport n i) rest .ending ≡ 0 → (t ≡ false) × (rest .ending ≡ 0)
@@ -94,3 +97,29 @@ pub plain-of : (report : Report) (m : Memory) (unique register ram log : List �
 unfolding lengthsOf unlabelled
 plain-of report m unique register ram log outcome u r l e =
     rw (← no-labels (spaces unique register ram) (rw (u, r, l) refl)) e
+
+-- ---- the speculative run
+
+-- where nothing is refused, it may run, and its journal has room
+pub accepted-ahead : (settings : Settings) (list : List ℕ) (start window words : ℕ) (labels m : Memory) (valid : Bool) (found : Report)
+    → found ≡ speculativeRefusal settings (lengthsOf m) list start window words (sameLengths (lengthsOf labels) (lengthsOf m)) valid → found .ending ≡ 0
+    → Valid (lengthsOf m) list × (start ≤ operationCount list) × (lengthsOf labels ≡ lengthsOf m) × (settingsInRange settings ≡ true) × (journalWords window ≤ words)
+accepted-ahead settings list start window words labels m valid found f e =
+    let fitting : Bool = sameLengths (lengthsOf labels) (lengthsOf m) in
+    let h = ahead-accepted settings (lengthsOf m) list start window words fitting valid (eq-eqb _ 0 (rw f at e)) in
+    let a = accepted settings (lengthsOf m) list start fitting valid _ refl (eqb-true _ 0 (h .3)) in
+    (a .0, a .1, same-lengths-are _ _ (h .0), a .4, h .2)
+
+module _ (settings : Settings) (list : List ℕ) (start budget window : ℕ) (log journal : List ℕ) (labels m : Memory) (found refused : Report) (f : found ≡ refused) where
+  pub refused-ahead : (found .ending ≡ 0 → ⊥) → speculation found m labels log journal ≡ calledAhead settings list start budget window log journal labels m refused
+  unfolding calledAhead
+  refused-ahead h = rw (← f, ne-eqb (found .ending) 0 h) refl
+
+  -- the journal's further words stayed, and its first ones were cleared
+  pub ran-ahead : found .ending ≡ 0 → (report : Report) (m′ labels′ : Memory) (log′ journal′ cleared : List ℕ)
+      → labelledOutcome report m′ labels′ log′ ≡ outcomeOf log (speculate (programOf settings list) window budget (position start 0 0 log) labels m)
+      → Spared window journal journal′ → cleared ≡ journalAfter window journal′
+      → speculation report m′ labels′ log′ cleared ≡ calledAhead settings list start budget window log journal labels m refused
+  unfolding calledAhead position starting journalAfter
+  ran-ahead h report m′ labels′ log′ journal′ cleared e s c =
+      ap (λ (o : Outcome). record { outcome = o; journal = cleared }) e ∙ rw (← f, eq-eqb (found .ending) 0 h, sub-zero, c, s .further) refl

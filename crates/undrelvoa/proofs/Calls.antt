@@ -9,11 +9,14 @@ use lib.Seq.{sets}
 use Rattle.operation.specs.Numbers.{reportNumbers}
 use Rattle.operation.specs.declared.report.Report.{Report}
 use Rattle.machine.specs.Calls.{Outcome, labelledOutcome, plainRun, labelledRun}
-use Rattle.interpreter.specs.Composition.{LabelledCall, PlainCall}
+use Rattle.speculation.specs.Speculation.{Speculation, speculativeRun}
+use Rattle.interpreter.specs.Composition.{LabelledCall, PlainCall, SpeculativeCall}
 use Rattle.interpreter.proofs.Composition.{calls-noninterfere, labelled-calls-resume, plain-calls-resume}
+use Rattle.interpreter.proofs.Composition.{speculative-calls-noninterfere, speculative-calls-resume, speculative-calls-against-labelled}
 use Rattle.undrelvoa_faults.proofs.Passed.{lengths-passed}
-use Rattle.undrelvoa.specs.Buffers.{Buffers, reportWords, settingsIn, plainBuffers, labelledBuffers, after}
-use Rattle.undrelvoa.specs.Calls.{PlainCallC, LabelledCallC, reportIn, ThroughInterpreter, NoninterferenceC, LabelledResumesC, PlainResumesC}
+use Rattle.undrelvoa.specs.Buffers.{Buffers, reportWords, settingsIn, plainBuffers, labelledBuffers, after, SpeculativeBuffers, speculativeBuffers, afterSpeculation}
+use Rattle.undrelvoa.specs.Calls.{PlainCallC, LabelledCallC, SpeculativeCallC, reportIn, ThroughInterpreter, NoninterferenceC, LabelledResumesC, PlainResumesC}
+use Rattle.undrelvoa.specs.Calls.{SpeculativeNoninterferenceC, SpeculativeResumesC, SpeculativeAgainstLabelledC}
 
 -- a report read from the words it was written to
 read-back : (ws : List ℕ) (r : Report) → reportNumbers ≤ length ws → reportIn (sets ws 0 (reportWords r)) ≡ r
@@ -53,6 +56,15 @@ module _ {settings list : List ℕ} {start budget : ℕ} where
   labelled-fits : (c : LabelledCallC settings list start budget) → reportNumbers ≤ length (c .report)
   labelled-fits c = lengths-passed (length settings) (length (c .report)) (sym (c .answers) ∙ c .accepted) .1
 
+module _ {settings list : List ℕ} {start budget window : ℕ} where
+  speculative-leaves : (c : SpeculativeCallC settings list start budget window)
+      → speculativeBuffers (c .memory′) (c .labels′) (c .log′) (c .journal′) (c .report′)
+      ≡ afterSpeculation (c .report) (speculativeRun (settingsIn settings) list start budget window (c .log) (c .journal) (c .labels) (c .memory))
+  speculative-leaves c = c .leaves ∙ rw (eq-eqb (c .answer) 0 (c .accepted)) refl
+
+  speculative-fits : (c : SpeculativeCallC settings list start budget window) → reportNumbers ≤ length (c .report)
+  speculative-fits c = lengths-passed (length settings) (length (c .report)) (sym (c .answers) ∙ c .accepted) .1
+
 -- the outcome that the buffers hold
 outcomeIn : Buffers → Outcome
 outcomeIn b = record { report = reportIn (b .report); memory = b .memory; labels = b .labels; log = b .log }
@@ -61,13 +73,22 @@ held : (report : List ℕ) (o : Outcome) → reportNumbers ≤ length report →
 unfolding after outcomeIn
 held report o h = ap (λ (r : Report). labelledOutcome r (o .memory) (o .labels) (o .log)) (read-back report (o .report) h)
 
+speculationIn : SpeculativeBuffers → Speculation
+speculationIn b = record { outcome = outcomeIn (b .buffers); journal = b .journal }
+
+held-speculation : (report : List ℕ) (s : Speculation) → reportNumbers ≤ length report → speculationIn (afterSpeculation report s) ≡ s
+unfolding afterSpeculation speculationIn
+held-speculation report s h = ap (λ (o : Outcome). record { outcome = o; journal = s .journal }) (held report (s .outcome) h)
+
 pub through-interpreter : ThroughInterpreter
-unfolding after outcomeIn
+unfolding after outcomeIn afterSpeculation speculationIn
 through-interpreter = record {
   plain = λ c. ap outcomeIn (plain-leaves c) ∙ held (c .report) _ (plain-fits c);
   labelled = λ c. ap outcomeIn (labelled-leaves c) ∙ held (c .report) _ (labelled-fits c);
+  speculative = λ c. ap speculationIn (speculative-leaves c) ∙ held-speculation (c .report) _ (speculative-fits c);
   plainLent = λ c. ap (λ (b : Buffers). drop reportNumbers (b .report)) (plain-leaves c) ∙ behind (c .report) _ (plain-fits c);
   labelledLent = λ c. ap (λ (b : Buffers). drop reportNumbers (b .report)) (labelled-leaves c) ∙ behind (c .report) _ (labelled-fits c);
+  speculativeLent = λ c. ap (λ (b : SpeculativeBuffers). drop reportNumbers (b .buffers .report)) (speculative-leaves c) ∙ behind (c .report) _ (speculative-fits c);
 }
 
 -- the interpreter's call
@@ -86,6 +107,21 @@ module _ {settings list : List ℕ} {start budget : ℕ} where
     report = reportIn (c .report′);
     ensures = through-interpreter .labelled c;
   }
+
+speculative : {settings list : List ℕ} {start budget window : ℕ} → SpeculativeCallC settings list start budget window
+    → SpeculativeCall (settingsIn settings) list start budget window
+speculative c = record {
+  memory = c .memory;
+  labels = c .labels;
+  log = c .log;
+  journal = c .journal;
+  memory′ = c .memory′;
+  labels′ = c .labels′;
+  log′ = c .log′;
+  journal′ = c .journal′;
+  report = reportIn (c .report′);
+  ensures = through-interpreter .speculative c;
+}
 
 pub noninterference-c : NoninterferenceC
 unfolding plain labelled
@@ -116,3 +152,21 @@ labelled-resumes-c settings list start budget further first second whole = label
 pub plain-resumes-c : PlainResumesC
 unfolding plain
 plain-resumes-c settings list start budget further first second whole = plain-calls-resume _ _ _ _ _ (plain first) (plain second) (plain whole)
+
+pub speculative-noninterference-c : SpeculativeNoninterferenceC
+unfolding speculative
+speculative-noninterference-c settings list start budget window first second =
+    speculative-calls-noninterfere _ _ _ _ _ (speculative first) (speculative second)
+
+pub speculative-resumes-c : SpeculativeResumesC
+unfolding speculative
+speculative-resumes-c settings list start budget further window first second whole =
+    speculative-calls-resume _ _ _ _ _ _ (speculative first) (speculative second) (speculative whole)
+
+pub speculative-against-labelled-c : SpeculativeAgainstLabelledC
+unfolding speculative labelled
+speculative-against-labelled-c = record {
+  aside = λ s l a. speculative-calls-against-labelled .aside (speculative s) (labelled l) (record { memory = a .memory; labels = a .labels; log = a .log });
+  below = λ l. speculative-calls-against-labelled .below (labelled l);
+  noWindow = λ s l a. speculative-calls-against-labelled .noWindow (speculative s) (labelled l) (record { memory = a .memory; labels = a .labels; log = a .log });
+}

@@ -7,6 +7,7 @@ use Rattle.operation.specs.declared.layout.Settings.{Settings}
 use Rattle.operation.specs.declared.report.Report.{Report}
 use Rattle.machine.specs.Memory.{Memory}
 use Rattle.machine.specs.Calls.{Outcome, unlabelled}
+use Rattle.speculation.specs.Speculation.{Speculation}
 
 -- A report in its words: ending, index, operations executed, log words written, value.
 unfoldable pub reportWords : Report → List ℕ
@@ -45,3 +46,15 @@ after report outcome =
       log = outcome .log;
       report = sets report 0 (reportWords (outcome .report));
     }
+
+-- The buffers lent to a speculative run.
+pub record SpeculativeBuffers : Type 0 where
+  pub buffers : Buffers
+  pub journal : List ℕ
+
+abbrev pub speculativeBuffers : (memory labels : Memory) → (log journal report : List ℕ) → SpeculativeBuffers
+speculativeBuffers m labels log journal report = record { buffers = labelledBuffers m labels log report; journal = journal }
+
+-- What a speculative run leaves in them.
+unfoldable pub afterSpeculation : (report : List ℕ) → Speculation → SpeculativeBuffers
+afterSpeculation report s = record { buffers = after report (s .outcome); journal = s .journal }

@@ -1,5 +1,5 @@
 -- The C calls that run, and the interpreter's calls: what holds of these holds of the C calls by one law.
-use Prim.Native.Nat.{ℕ, _+_}
+use Prim.Native.Nat.{ℕ, _+_, _*_, _^_, _≤_, _<_}
 use mathlib.Core.Bool.{cond}
 use mathlib.Core.List.{List}
 use mathlib.Core.Path.{_≡_}
@@ -11,9 +11,13 @@ use Rattle.machine.specs.Memory.{Memory}
 use Rattle.machine.specs.Calls.{Outcome, plainOutcome, labelledOutcome, plainRun, labelledRun}
 use Rattle.machine.specs.Noninterference.{LowEquivalent, Labelled, Indistinguishable, PlainAlike}
 use Rattle.machine.specs.Resume.{Summed}
-use Rattle.runs.specs.Promises.{RunPromise, LabelledRunPromise}
+use Rattle.speculation.specs.Speculation.{Speculation, speculation, speculativeRun}
+use Rattle.speculation.specs.Noninterference.{IndistinguishableAhead}
+use Rattle.speculation.specs.Labelled.{MarkedAside}
+use Rattle.speculation.specs.Resume.{SummedAhead}
+use Rattle.runs.specs.Promises.{RunPromise, LabelledRunPromise, SpeculativeRunPromise}
 use Rattle.undrelvoa_faults.specs.Faults.{lengthFault}
-use Rattle.undrelvoa.specs.Buffers.{settingsIn, plainBuffers, labelledBuffers, after}
+use Rattle.undrelvoa.specs.Buffers.{settingsIn, plainBuffers, labelledBuffers, after, speculativeBuffers, afterSpeculation}
 
 -- ---- what the C calls promise
 
@@ -34,6 +38,14 @@ abbrev pub LabelledBuffersPromise : (settings list : List ℕ) (start budget : �
 LabelledBuffersPromise settings list start budget m labels log report m′ labels′ log′ report′ answer =
     labelledBuffers m′ labels′ log′ report′
     ≡ cond (eqb answer 0) (after report (labelledRun (settingsIn settings) list start budget log labels m)) (labelledBuffers m labels log report)
+
+-- Those of a speculative run, its journal among them.
+abbrev pub SpeculativeBuffersPromise : (settings list : List ℕ) (start budget window : ℕ) (memory labels : Memory) (log journal report : List ℕ)
+    (memory′ labels′ : Memory) (log′ journal′ report′ : List ℕ) (answer : ℕ) → Type 0
+SpeculativeBuffersPromise settings list start budget window m labels log journal report m′ labels′ log′ journal′ report′ answer =
+    speculativeBuffers m′ labels′ log′ journal′ report′
+    ≡ cond (eqb answer 0) (afterSpeculation report (speculativeRun (settingsIn settings) list start budget window log journal labels m))
+    (speculativeBuffers m labels log journal report)
 
 -- A C call of the plain run that answers 0: the buffers lent, the same when it returns, its answer, and its promise. A step is such a call
 -- with budget 1.
@@ -64,6 +76,23 @@ pub record LabelledCallC (settings list : List ℕ) (start budget : ℕ) : Type 
   pub accepted : answer ≡ 0
   pub leaves : LabelledBuffersPromise settings list start budget memory labels log report memory′ labels′ log′ report′ answer
 
+-- A C call of the speculative run that answers 0.
+pub record SpeculativeCallC (settings list : List ℕ) (start budget window : ℕ) : Type 0 where
+  pub memory : Memory
+  pub labels : Memory
+  pub log : List ℕ
+  pub journal : List ℕ
+  pub report : List ℕ
+  pub memory′ : Memory
+  pub labels′ : Memory
+  pub log′ : List ℕ
+  pub journal′ : List ℕ
+  pub report′ : List ℕ
+  pub answer : ℕ
+  pub answers : AnswerPromise settings report answer
+  pub accepted : answer ≡ 0
+  pub leaves : SpeculativeBuffersPromise settings list start budget window memory labels log journal report memory′ labels′ log′ journal′ report′ answer
+
 -- ---- the law
 
 -- The report in the words of a buffer.
@@ -77,9 +106,14 @@ pub record ThroughInterpreter : Type 0 where
       → RunPromise (settingsIn settings) list start budget (c .memory) (c .log) (c .memory′) (c .log′) (reportIn (c .report′))
   pub labelled : {settings list : List ℕ} {start budget : ℕ} (c : LabelledCallC settings list start budget)
       → LabelledRunPromise (settingsIn settings) list start budget (c .memory) (c .labels) (c .log) (c .memory′) (c .labels′) (c .log′) (reportIn (c .report′))
+  pub speculative : {settings list : List ℕ} {start budget window : ℕ} (c : SpeculativeCallC settings list start budget window)
+      → SpeculativeRunPromise (settingsIn settings) list start budget window (c .memory) (c .labels) (c .log) (c .journal)
+      (c .memory′) (c .labels′) (c .log′) (c .journal′) (reportIn (c .report′))
   pub plainLent : {settings list : List ℕ} {start budget : ℕ} (c : PlainCallC settings list start budget)
       → drop reportNumbers (c .report′) ≡ drop reportNumbers (c .report)
   pub labelledLent : {settings list : List ℕ} {start budget : ℕ} (c : LabelledCallC settings list start budget)
+      → drop reportNumbers (c .report′) ≡ drop reportNumbers (c .report)
+  pub speculativeLent : {settings list : List ℕ} {start budget window : ℕ} (c : SpeculativeCallC settings list start budget window)
       → drop reportNumbers (c .report′) ≡ drop reportNumbers (c .report)
 
 -- ---- what follows
@@ -120,3 +154,43 @@ PlainResumesC = (settings list : List ℕ) (start budget further : ℕ) (first :
     → plainLeftC first .report .ending ≡ 2 → second .memory ≡ first .memory′ → second .log ≡ drop (plainLeftC first .report .logged) (first .log′)
     → whole .memory ≡ first .memory → whole .log ≡ first .log
     → Summed (plainLeftC first) (plainLeftC second) (plainLeftC whole)
+
+-- What a C call of the speculative run left.
+abbrev pub speculativeLeftC : {settings list : List ℕ} {start budget window : ℕ} → SpeculativeCallC settings list start budget window → Speculation
+speculativeLeftC c = speculation (reportIn (c .report′)) (c .memory′) (c .labels′) (c .log′) (c .journal′)
+
+-- Noninterference of two C calls of the speculative run, with logs and journals of equal lengths.
+abbrev pub SpeculativeNoninterferenceC : Type 0
+SpeculativeNoninterferenceC = (settings list : List ℕ) (start budget window : ℕ) (first second : SpeculativeCallC settings list start budget window)
+    → first .labels ≡ second .labels → LowEquivalent (first .labels) (first .memory) (second .memory)
+    → length (first .log) ≡ length (second .log) → length (first .journal) ≡ length (second .journal)
+    → IndistinguishableAhead (first .journal) (second .journal) (speculativeLeftC first) (speculativeLeftC second)
+
+-- Resuming by C calls of the speculative run.
+abbrev pub SpeculativeResumesC : Type 0
+SpeculativeResumesC = (settings list : List ℕ) (start budget further window : ℕ) (first : SpeculativeCallC settings list start budget window)
+    (second : SpeculativeCallC settings list (speculativeLeftC first .outcome .report .index) further window)
+    (whole : SpeculativeCallC settings list start (budget + further) window)
+    → speculativeLeftC first .outcome .report .ending ≡ 2 → second .memory ≡ first .memory′ → second .labels ≡ first .labels′
+    → second .log ≡ drop (speculativeLeftC first .outcome .report .logged) (first .log′) → second .journal ≡ first .journal′
+    → whole .memory ≡ first .memory → whole .labels ≡ first .labels → whole .log ≡ first .log → whole .journal ≡ first .journal
+    → SummedAhead (speculativeLeftC first) (speculativeLeftC second) (speculativeLeftC whole)
+
+-- The two C calls are lent the same.
+pub record LentAlikeC {settings list : List ℕ} {start budget window : ℕ} (s : SpeculativeCallC settings list start budget window)
+    (l : LabelledCallC settings list start budget) : Type 0 where
+  pub memory : s .memory ≡ l .memory
+  pub labels : s .labels ≡ l .labels
+  pub log : s .log ≡ l .log
+
+-- A C call of the speculative run against one of the labelled run: equal, marked words aside; every word of the labelled run is below 2^63;
+-- with W = 0 the same, and the journal as lent.
+pub record SpeculativeAgainstLabelledC : Type 0 where
+  pub aside : {settings list : List ℕ} {start budget window : ℕ} (s : SpeculativeCallC settings list start budget window) (l : LabelledCallC settings list start budget)
+      → LentAlikeC s l → window ≤ 64 → 4 * window ≤ length (s .journal)
+      → (speculativeLeftC s .outcome .report .ending ≡ 34 → ⊥) → (speculativeLeftC s .outcome .report .ending ≡ 35 → ⊥)
+      → MarkedAside (speculativeLeftC s .outcome) (leftC l)
+  pub below : {settings list : List ℕ} {start budget : ℕ} (l : LabelledCallC settings list start budget) (k : ℕ)
+      → k < leftC l .report .logged → getD (l .log′) k 0 < 2 ^ 63
+  pub noWindow : {settings list : List ℕ} {start budget : ℕ} (s : SpeculativeCallC settings list start budget 0) (l : LabelledCallC settings list start budget)
+      → LentAlikeC s l → speculativeLeftC s ≡ record { outcome = leftC l; journal = s .journal }

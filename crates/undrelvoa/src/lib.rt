@@ -11,7 +11,7 @@ ghost use Rattle.word.specs.Word.{part, valueOf, bytesOf};
 ghost use Rattle.arithmetic.specs.Result.{result};
 ghost use Rattle.machine.specs.Memory.{spaces};
 ghost use Rattle.undrelvoa_faults.specs.Faults.{valueFault, gatherFault, scatterFault, placeFault};
-ghost use Rattle.undrelvoa.specs.Calls.{AnswerPromise, BuffersPromise, LabelledBuffersPromise};
+ghost use Rattle.undrelvoa.specs.Calls.{AnswerPromise, BuffersPromise, LabelledBuffersPromise, SpeculativeBuffersPromise};
 ghost use Rattle.undrelvoa.specs.Answers.{verdictWords, shownLength, placeWords};
 use operation::layout::Lengths;
 use undrelvoa_faults::of_gather;
@@ -249,6 +249,56 @@ pub extern "C" fn undrelvoa_labelled_step(
         register_labels,
         ram_labels,
         log,
+    );
+    write_report(report, ran);
+    0
+}
+
+#[no_mangle]
+pub extern "C" fn undrelvoa_speculative_run(
+    settings: &[u64],
+    list: &[u64],
+    start: u64,
+    budget: u32,
+    window: u64,
+    unique: &mut [u8],
+    register: &mut [u8],
+    ram: &mut [u8],
+    unique_labels: &mut [u8],
+    register_labels: &mut [u8],
+    ram_labels: &mut [u8],
+    log: &mut [u64],
+    journal: &mut [u64],
+    report: &mut [u64],
+) -> u64
+    ensures answer { λ r. ⌜ AnswerPromise (now (settings .entry)) (now (report .entry)) r ⌝ }
+    ensures buffers { λ r. ⌜ SpeculativeBuffersPromise (now (settings .entry)) (now (list .entry)) start budget window
+        (spaces (now (unique .entry)) (now (register .entry)) (now (ram .entry)))
+        (spaces (now («unique_labels» .entry)) (now («register_labels» .entry)) (now («ram_labels» .entry)))
+        (now (log .entry)) (now (journal .entry)) (now (report .entry))
+        (spaces (now (unique .exit)) (now (register .exit)) (now (ram .exit)))
+        (spaces (now («unique_labels» .exit)) (now («register_labels» .exit)) (now («ram_labels» .exit)))
+        (now (log .exit)) (now (journal .exit)) (now (report .exit)) r ⌝ }
+{
+    let fault = of_lengths(settings.len(), report.len());
+    if fault != 0 {
+        return fault;
+    }
+    let settings = settings_in(settings);
+    let ran = interpreter::speculative_run(
+        settings,
+        list,
+        start,
+        budget,
+        window,
+        unique,
+        register,
+        ram,
+        unique_labels,
+        register_labels,
+        ram_labels,
+        log,
+        journal,
     );
     write_report(report, ran);
     0

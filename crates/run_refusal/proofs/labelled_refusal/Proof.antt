@@ -6,12 +6,18 @@ use Rattle.run_refusal.proofs.labelled_refusal.Tie as tie
 use Rattle.run_refusal.proofs.labelled_refusal.Lts as lts
 
 returns : tie.Need-returns
-returns c = c .refusal .ensures ∙ rw (c .before .before .same-lengths .ensures, c .before .labels-in-range .ensures, c .before .before .before .before .lengths-of .ensures, c .before .before .before .lengths-of2 .ensures) refl
+returns c =
+    let chosen = c .before in
+    let labels = chosen .before in
+    let fitting = labels .before in
+    c .refusal .ensures
+    ∙ rw (chosen .both .ensures, labels .labels-in-range .ensures, fitting .same-lengths .ensures, fitting .before .lengths-of2 .ensures, fitting .before .before .lengths-of .ensures) refl
 
 pub labelled-refusal-spec : {M : Type 1} → statement M
 labelled-refusal-spec =
     tie.close
     (tie.spec
+    (λ c κs. search needs)
     (λ c κs. search needs)
     (λ c κs. search needs)
     (λ c κs. search needs)
