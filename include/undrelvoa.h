@@ -33,10 +33,10 @@ extern "C" {
 
 /* The version of this header and of the library that it is for: that of the file VERSION. The first number
  * grows where a call changes, in its parameters or in the words that it takes: a program must then be checked
- * and compiled again, since the linker does not notice. */
-#define UNDRELVOA_VERSION "3.0.0"
+ * and compiled again, since the linker does not notice. The second grows where a call is added. */
+#define UNDRELVOA_VERSION "3.1.0"
 #define UNDRELVOA_VERSION_MAJOR 3
-#define UNDRELVOA_VERSION_MINOR 0
+#define UNDRELVOA_VERSION_MINOR 1
 #define UNDRELVOA_VERSION_PATCH 0
 
 /* Limits. The verdict and the runs refuse what is beyond them. */
@@ -44,6 +44,7 @@ extern "C" {
 #define UNDRELVOA_MAX_SPACE_BYTES 65536 /* bytes of a space */
 #define UNDRELVOA_MAX_SIZE 8            /* bytes of a varnode or an address, and the largest wordsize */
 #define UNDRELVOA_MAX_BUDGET UINT32_MAX /* C silently truncates a larger number */
+#define UNDRELVOA_MAX_WINDOW 64         /* operations of a window */
 
 /* The words of settings. Their number is exact, and a later version may ask for more. So lend the words that you
  * wrote (sizeof settings / sizeof settings[0]): with UNDRELVOA_SETTINGS_WORDS as their number, one that you do not
@@ -82,9 +83,15 @@ extern "C" {
 #define UNDRELVOA_SECRET 1
 
 /* A log word: the index of the operation that wrote it, and what it shows: the byte offset of LOAD and
- * STORE, or 1 for a CBRANCH taken and 0 for one not taken. */
-#define UNDRELVOA_LOG_INDEX(word) ((uint64_t)(word) >> 32)
+ * STORE, or 1 for a CBRANCH taken and 0 for one not taken. The words of a window are marked, by
+ * UNDRELVOA_WINDOW_MARK added; UNDRELVOA_LOG_AHEAD is 1 for such a word, and 0 for any other. */
+#define UNDRELVOA_WINDOW_MARK ((uint64_t)1 << 63)
+#define UNDRELVOA_LOG_AHEAD(word) ((uint64_t)(word) >> 63)
+#define UNDRELVOA_LOG_INDEX(word) (((uint64_t)(word) & ~UNDRELVOA_WINDOW_MARK) >> 32)
 #define UNDRELVOA_LOG_SHOWN(word) ((uint64_t)(word) & 0xffffffffu)
+
+/* The words of a journal that each operation of a window needs. */
+#define UNDRELVOA_JOURNAL_WORDS_PER_OPERATION 4
 
 /* An operation is five words: its head, then the offsets of output, input0, input1 and input2. Where an
  * operation has no such varnode, its descriptor is UNDRELVOA_ABSENT and its offset 0. A number that does not
@@ -157,7 +164,7 @@ enum undrelvoa_opcode {
  * These numbers are endings too, where they mean something else, so an answer is never compared with an
  * undrelvoa_ending. Two are easily confused:
  *   11  UNDRELVOA_ANSWER_LENGTH: settings, report, place or result have the wrong number of words. The
- *       ending UNDRELVOA_LENGTH: list, spaces or labels have a wrong length.
+ *       ending UNDRELVOA_LENGTH: list, spaces, labels or journal have a wrong length.
  *   24  UNDRELVOA_ANSWER_RANGE: the bytes or values given to undrelvoa_gather, undrelvoa_scatter or
  *       undrelvoa_value do not fit. The ending UNDRELVOA_RANGE: a varnode of an operation does not. */
 enum undrelvoa_answer {
@@ -180,9 +187,10 @@ enum undrelvoa_ending {
     UNDRELVOA_END = 0,      /* the end of the list: the number of operations */
     UNDRELVOA_EXIT = 1,     /* the exiting operation, which is counted; the value is its destination */
     UNDRELVOA_BUDGET = 2,   /* the budget is spent: the next operation */
-    UNDRELVOA_SETTING = 10, /* byte order, address size or a wordsize out of range: 0 */
+    UNDRELVOA_SETTING = 10, /* byte order, address size, a wordsize or the window out of range: 0 */
     UNDRELVOA_LENGTH = 11,  /* words not a multiple of 5, over 4,096 operations, a space over 65,536
-                             * bytes, or other numbers of labels than of bytes: 0 */
+                             * bytes, other numbers of labels than of bytes, or a journal of fewer words
+                             * than four for each operation of the window: 0 */
     UNDRELVOA_LABEL = 12,   /* a label that is neither 0 nor 1: 0 */
     /* 21 to 26: the first malformed operation, by the lowest rule that it breaks */
     UNDRELVOA_HEAD = 21,    /* an opcode out of range, or a spare byte of the head that is not 0 */
@@ -192,11 +200,13 @@ enum undrelvoa_ending {
     UNDRELVOA_SIZE = 25,    /* sizes that the operation does not allow together */
     UNDRELVOA_TARGET = 26,  /* a destination that is no index from 0 to the number of operations */
     UNDRELVOA_START = 27,   /* a start above the number of operations: 0 */
-    /* 31 to 34: the operation that was not executed; where several hold, the lowest */
+    /* 31 to 34: the operation that was not executed; where several hold, the lowest. 34 in a window, and 35:
+     * the CBRANCH that opened the window, which is not counted */
     UNDRELVOA_LEAK = 31,    /* a byte that must be public is secret */
     UNDRELVOA_BOUNDS = 32,  /* LOAD or STORE past the end of the space that input0 names, after multiplying */
     UNDRELVOA_ZERO = 33,    /* a divisor of 0 */
-    UNDRELVOA_LOG = 34      /* a log word is due, and the log is full */
+    UNDRELVOA_LOG = 34,     /* a log word is due, and the log is full */
+    UNDRELVOA_LEAK_AHEAD = 35 /* in a window, a byte that must be public is secret */
 };
 
 /* The value of an integer operation.
@@ -277,7 +287,7 @@ uint64_t undrelvoa_validate(const uint64_t *settings, size_t settings_len, uint6
  *   report       its first five words become the report; further words stay as they are
  *   report_len   words of report, at least UNDRELVOA_REPORT_WORDS
  *
- * The endings are those of enum undrelvoa_ending but for 12 and 31. After a refusal the spaces and the
+ * The endings are those of enum undrelvoa_ending but for 12, 31 and 35. After a refusal the spaces and the
  * log are as lent; after another ending they are as the executed operations left them.
  * Answers 0 when the report is written, or 11.
  */
@@ -302,10 +312,10 @@ uint64_t undrelvoa_step(const uint64_t *settings, size_t settings_len, const uin
  *   unique_labels_len, register_labels_len, ram_labels_len   their bytes, as many as the space has
  *   the others   as for undrelvoa_run
  *
- * The endings are those of enum undrelvoa_ending. After a refusal the labels too are as lent. LEAK is a
- * secret byte in the pointer of LOAD or STORE, the condition of CBRANCH, input0 of BRANCHIND, CALLIND or
- * RETURN, or a divisor. All bytes that an operation writes become secret if a byte that it reads is, else
- * public.
+ * The endings are those of enum undrelvoa_ending but for 35. After a refusal the labels too are as lent.
+ * LEAK is a secret byte in the pointer of LOAD or STORE, the condition of CBRANCH, input0 of BRANCHIND,
+ * CALLIND or RETURN, or a divisor. All bytes that an operation writes become secret if a byte that it reads
+ * is, else public.
  * Answers 0 when the report is written, or 11.
  */
 uint64_t undrelvoa_labelled_run(const uint64_t *settings, size_t settings_len, const uint64_t *list,
@@ -326,6 +336,43 @@ uint64_t undrelvoa_labelled_step(const uint64_t *settings, size_t settings_len, 
                                  size_t register_labels_len, uint8_t *ram_labels,
                                  size_t ram_labels_len, uint64_t *log, size_t log_len,
                                  uint64_t *report, size_t report_len);
+
+/* A labelled run that also tries the way not taken, as a processor does that guesses a branch wrongly: the
+ * speculative run.
+ *
+ *   window       the most operations of a window, 0 to UNDRELVOA_MAX_WINDOW
+ *   journal      room for what a window overwrites; what it holds before does not matter. Its first 4 * window
+ *                words become zeros; further words stay as they are
+ *   journal_len  words of journal, at least window * UNDRELVOA_JOURNAL_WORDS_PER_OPERATION
+ *   the others   as for undrelvoa_labelled_run
+ *
+ * Each CBRANCH executed opens a window, after its log word: the way that it does not take is run until
+ * `window` operations are done, or the window closes: at the end of the list, or by EXIT, BOUNDS or ZERO.
+ * A CBRANCH in a window follows its condition and opens none. Bytes and labels then become again what they
+ * were, and the right way goes on. Operations of a window are not counted and spend no budget. Their log words
+ * are marked, stay in the log, and are counted in UNDRELVOA_REPORT_LOGGED.
+ *
+ * In a window, LEAK ends the run as UNDRELVOA_LEAK_AHEAD, and a full log ends it as UNDRELVOA_LOG. Both report
+ * the CBRANCH that opened the window, not counted, with value 0; bytes and labels are those before it, and the
+ * log words written until then stay, its own too. With any other ending the report, but for the number of log
+ * words, the spaces, the labels and the words that are not marked are those of undrelvoa_labelled_run.
+ *
+ * A window over UNDRELVOA_MAX_WINDOW is 10, and a journal of too few words 11. After a refusal the journal too
+ * is as lent.
+ *
+ * A run takes up to window + 1 times the operations of its budget, and writes up to as many log words. With a
+ * window of 0 it is undrelvoa_labelled_run.
+ * Answers 0 when the report is written, or 11.
+ */
+uint64_t undrelvoa_speculative_run(const uint64_t *settings, size_t settings_len, const uint64_t *list,
+                                   size_t list_len, uint64_t start, uint32_t budget, uint64_t window,
+                                   uint8_t *unique, size_t unique_len, uint8_t *register_space,
+                                   size_t register_len, uint8_t *ram, size_t ram_len,
+                                   uint8_t *unique_labels, size_t unique_labels_len,
+                                   uint8_t *register_labels, size_t register_labels_len,
+                                   uint8_t *ram_labels, size_t ram_labels_len, uint64_t *log,
+                                   size_t log_len, uint64_t *journal, size_t journal_len,
+                                   uint64_t *report, size_t report_len);
 
 /* Where the bytes of a varnode lie.
  *

@@ -7,13 +7,19 @@ use std::env;
 use std::path::Path;
 use std::process::Command;
 
-/// The loop of both runs: a function with two callers, called once a run.
+/// The loop of all runs: a function with several callers, called once a run, and by a speculative run with a window once an
+/// operation.
 const LOOP: &str = "run_labelled::run_any";
 
 /// The functions of the archive beside those of the C interface. `value` alone is called by an operation; the C interface calls
 /// it too.
-const CALLED: [&str; 5] =
-    [LOOP, "arithmetic::value", "runs::labelled_run", "runs::run", "validation::first_malformed"];
+const CALLED: [&str; 5] = [
+    LOOP,
+    "arithmetic::value",
+    "run_refusal::labelled_refusal",
+    "runs::run",
+    "validation::first_malformed",
+];
 
 #[test]
 fn no_function_of_the_loop_is_called() {

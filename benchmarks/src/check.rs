@@ -1,7 +1,8 @@
-//! Checks that the two interpreters do the same: the loops, shorter, and every integer operation.
+//! Checks that the two interpreters do the same: the loops, shorter, and every integer operation. So does
+//! the speculative run without a window, and with one but for the words of its windows.
 
-use crate::library::{Labels, Program, State};
-use crate::loops::{loops, straight};
+use crate::library::{Labels, Program, State, LARGEST_WINDOW};
+use crate::loops::{branching_loops, loops, straight};
 use crate::{run, Kind};
 
 const OPERATIONS: u32 = 1_000;
@@ -9,23 +10,47 @@ const OPERATIONS: u32 = 1_000;
 /// Runs a program on both, and with public labels. Gives back the report.
 fn check(program: &Program, budget: u32, state: &State) -> [u64; 5] {
     let mut labels = Labels::public(state);
-    let [rust, plain, labelled] = [Kind::Rust, Kind::Plain, Kind::Labelled].map(|kind| {
+    let kinds = [Kind::Rust, Kind::Plain, Kind::Labelled, Kind::Speculative(0)];
+    let [rust, plain, labelled, speculative] = kinds.map(|kind| {
         let mut state = state.clone();
         (run(kind, program, budget, &mut state, &mut labels), state)
     });
     assert_eq!(rust, plain, "{:x?}", program.list);
     assert_eq!(labelled, plain, "{:x?}", program.list);
+    assert_eq!(speculative, plain, "{:x?}", program.list);
     assert_eq!(labels, Labels::public(state));
     plain.0
 }
 
 #[test]
 fn loops_agree() {
-    for timed in loops(OPERATIONS) {
+    for timed in loops(OPERATIONS).into_iter().chain(branching_loops(OPERATIONS)) {
         let [ending, _, executed, log_words, value] =
             check(&timed.program, OPERATIONS, &timed.state);
         assert_eq!([ending, executed, value], [2, u64::from(OPERATIONS), 0], "{}", timed.name);
         assert!(log_words > 0, "{} wrote no log word", timed.name);
+    }
+}
+
+/// The words that a run wrote and that no window did.
+fn own_words(log: &[u64], report: &[u64; 5]) -> Vec<u64> {
+    log[..report[3] as usize].iter().copied().filter(|word| word >> 63 == 0).collect()
+}
+
+#[test]
+fn windows_add_only_their_words() {
+    for timed in branching_loops(100 * OPERATIONS) {
+        let mut labels = Labels::public(&timed.state);
+        let kinds = [Kind::Labelled, Kind::Speculative(LARGEST_WINDOW)];
+        let [(labelled, expected), (report, state)] = kinds.map(|kind| {
+            let mut state = timed.state.clone();
+            (run(kind, &timed.program, OPERATIONS, &mut state, &mut labels), state)
+        });
+        assert_eq!(report[..3], labelled[..3]);
+        assert_eq!(own_words(&state.log, &report), own_words(&expected.log, &labelled));
+        assert_eq!(State { log: vec![], ..state }, State { log: vec![], ..expected });
+        assert_eq!(labels, Labels::public(&timed.state));
+        assert!(report[3] > 10 * labelled[3], "{} log words of windows", report[3]);
     }
 }
 
@@ -91,6 +116,7 @@ fn integer_operations_agree() {
                         register: vec![9; 9],
                         ram: vec![*a; 8],
                         log: vec![],
+                        journal: vec![],
                     };
                     // The low byte is the last one or the first.
                     let low = if order == 1 { sizes[2].max(1) - 1 } else { 0 };

@@ -6,11 +6,15 @@ use std::hint::black_box;
 use std::process::Command;
 
 use crate::library::{Labels, Program, State};
-use crate::loops::{loops, straight};
+use crate::loops::{branching_loops, loops, straight, Loop};
 use crate::{run, Kind};
 
 /// Two budgets: the difference of their counts has no part of the call's own cost.
 const BUDGETS: [u32; 2] = [5_000, 15_000];
+/// The same where windows bring 28 operations for each.
+const WINDOW_BUDGETS: [u32; 2] = [500, 1_500];
+/// More log words than an operation of a branching loop writes, windows included.
+const LOG_WORDS_PER_OPERATION: u32 = 20;
 
 /// Prints the instructions of an operation in each loop, and how the cost of a call grows.
 pub fn print() -> Result<(), String> {
@@ -25,9 +29,22 @@ pub fn print() -> Result<(), String> {
         }
         println!();
     }
+    println!("loop       size  order    labelled  W = 0   W = 64");
+    for (number, timed) in branching_loops(0).iter().enumerate() {
+        print!("{:<9}  {:>4}  {:<6}", timed.name, timed.size, timed.order_name());
+        for (kind, budgets, width) in
+            [("labelled", BUDGETS, 10), ("window-0", BUDGETS, 7), ("window-64", WINDOW_BUDGETS, 9)]
+        {
+            let count = |budget: u32| {
+                counted(&["branching", kind, &number.to_string(), &budget.to_string()])
+            };
+            print!("{:width$.1}", slope(budgets, count)?);
+        }
+        println!();
+    }
     println!("what a call costs before its first operation, in instructions");
     const FEW_AND_MANY: [u32; 2] = [1_000, 4_000];
-    for kind in ["plain", "labelled"] {
+    for kind in ["plain", "labelled", "window-0", "window-64"] {
         let count =
             |list: u32, ram: u32| counted(&["straight", kind, &list.to_string(), &ram.to_string()]);
         println!("{kind}: empty list and ram {}", count(0, 0)?);
@@ -75,23 +92,14 @@ fn counted(words: &[&str]) -> Result<u64, String> {
 
 /// One run: a loop with a budget, or nothing of a straight list.
 pub fn once(words: &[&str]) -> Result<(), String> {
-    let number = |word: &str| word.parse::<u32>().map_err(|_| format!("'{word}' is no number"));
-    let kind_of = |word: &str| match word {
-        "rust" => Ok(Kind::Rust),
-        "plain" => Ok(Kind::Plain),
-        "labelled" => Ok(Kind::Labelled),
-        _ => Err(format!("'{word}' is no kind of run")),
-    };
     match *words {
         ["loop", kind, place, budget] => {
             let budget = number(budget)?;
-            let mut loops = loops(budget);
-            let place = number(place)? as usize;
-            if place >= loops.len() {
-                return Err(format!("there is no loop {place}"));
-            }
-            let timed = loops.swap_remove(place);
-            run_once(kind_of(kind)?, &timed.program, budget, timed.state);
+            run_loop(kind, loops(budget), place, budget)?;
+        }
+        ["branching", kind, place, budget] => {
+            let budget = number(budget)?;
+            run_loop(kind, branching_loops(LOG_WORDS_PER_OPERATION * budget), place, budget)?;
         }
         ["straight", kind, operations, ram_len] => {
             let (program, state) =
@@ -100,6 +108,33 @@ pub fn once(words: &[&str]) -> Result<(), String> {
         }
         _ => return Err(format!("{words:?} is no run")),
     }
+    Ok(())
+}
+
+fn number(word: &str) -> Result<u32, String> {
+    word.parse().map_err(|_| format!("'{word}' is no number"))
+}
+
+fn kind_of(word: &str) -> Result<Kind, String> {
+    match word {
+        "rust" => Ok(Kind::Rust),
+        "plain" => Ok(Kind::Plain),
+        "labelled" => Ok(Kind::Labelled),
+        _ => match word.strip_prefix("window-") {
+            Some(window) => Ok(Kind::Speculative(u64::from(number(window)?))),
+            None => Err(format!("'{word}' is no kind of run")),
+        },
+    }
+}
+
+/// One run of the loop at a place.
+fn run_loop(kind: &str, mut loops: Vec<Loop>, place: &str, budget: u32) -> Result<(), String> {
+    let place = number(place)? as usize;
+    if place >= loops.len() {
+        return Err(format!("there is no loop {place}"));
+    }
+    let timed = loops.swap_remove(place);
+    run_once(kind_of(kind)?, &timed.program, budget, timed.state);
     Ok(())
 }
 

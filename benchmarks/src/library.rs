@@ -45,7 +45,40 @@ extern "C" {
         report: *mut u64,
         report_len: usize,
     ) -> u64;
+
+    fn undrelvoa_speculative_run(
+        settings: *const u64,
+        settings_len: usize,
+        list: *const u64,
+        list_len: usize,
+        start: u64,
+        budget: u32,
+        window: u64,
+        unique: *mut u8,
+        unique_len: usize,
+        register_space: *mut u8,
+        register_len: usize,
+        ram: *mut u8,
+        ram_len: usize,
+        unique_labels: *mut u8,
+        unique_labels_len: usize,
+        register_labels: *mut u8,
+        register_labels_len: usize,
+        ram_labels: *mut u8,
+        ram_labels_len: usize,
+        log: *mut u64,
+        log_len: usize,
+        journal: *mut u64,
+        journal_len: usize,
+        report: *mut u64,
+        report_len: usize,
+    ) -> u64;
 }
+
+/// The most operations of a window.
+pub const LARGEST_WINDOW: u64 = 64;
+/// The journal words of the largest window.
+pub const JOURNAL_WORDS: usize = 4 * LARGEST_WINDOW as usize;
 
 /// A list to run from its first operation on.
 #[derive(Clone)]
@@ -62,6 +95,8 @@ pub struct State {
     pub register: Vec<u8>,
     pub ram: Vec<u8>,
     pub log: Vec<u64>,
+    /// Only a speculative run is lent it.
+    pub journal: Vec<u64>,
 }
 
 /// One label for each byte of each space.
@@ -151,6 +186,51 @@ pub fn labelled_run(
             labels.ram.len(),
             state.log.as_mut_ptr(),
             state.log.len(),
+            report.as_mut_ptr(),
+            report.len(),
+        )
+    };
+    assert_eq!(answer, 0, "a run with a report of five words was refused");
+    report
+}
+
+/// The report of a speculative run with a window of so many operations.
+pub fn speculative_run(
+    program: &Program,
+    budget: u32,
+    window: u64,
+    state: &mut State,
+    labels: &mut Labels,
+) -> [u64; 5] {
+    let settings = settings(program);
+    let mut report = [0; 5];
+    // SAFETY: each pointer and length are those of one buffer, lent to this call alone; the buffers
+    // do not overlap.
+    let answer = unsafe {
+        undrelvoa_speculative_run(
+            settings.as_ptr(),
+            settings.len(),
+            program.list.as_ptr(),
+            program.list.len(),
+            0,
+            budget,
+            window,
+            state.unique.as_mut_ptr(),
+            state.unique.len(),
+            state.register.as_mut_ptr(),
+            state.register.len(),
+            state.ram.as_mut_ptr(),
+            state.ram.len(),
+            labels.unique.as_mut_ptr(),
+            labels.unique.len(),
+            labels.register.as_mut_ptr(),
+            labels.register.len(),
+            labels.ram.as_mut_ptr(),
+            labels.ram.len(),
+            state.log.as_mut_ptr(),
+            state.log.len(),
+            state.journal.as_mut_ptr(),
+            state.journal.len(),
             report.as_mut_ptr(),
             report.len(),
         )

@@ -1,6 +1,6 @@
 //! The loops that are timed. They go on until the budget ends them.
 
-use crate::library::{Program, State};
+use crate::library::{Program, State, JOURNAL_WORDS};
 
 /// A program and what it starts with.
 pub struct Loop {
@@ -24,15 +24,24 @@ impl Loop {
 const LITTLE: u64 = 0;
 const BIG: u64 = 1;
 
-/// Both loops at the sizes that have a fast way, in both byte orders, with room in the log for this
-/// many operations. The first two are those of size 8 in little order.
+/// The sizes that have a fast way, in both byte orders.
+const SIZES_AND_ORDERS: [(u64, u64); 6] =
+    [(8, LITTLE), (4, LITTLE), (1, LITTLE), (8, BIG), (4, BIG), (1, BIG)];
+
+/// The counting and the copying loop, with room in the log for this many operations. The first two are
+/// those of size 8 in little order.
 pub fn loops(operations: u32) -> Vec<Loop> {
     let mut loops = Vec::new();
-    for (size, order) in [(8, LITTLE), (4, LITTLE), (1, LITTLE), (8, BIG), (4, BIG), (1, BIG)] {
+    for (size, order) in SIZES_AND_ORDERS {
         loops.push(counting_loop(operations, size, order));
         loops.push(copying_loop(operations, size, order));
     }
     loops
+}
+
+/// The branching loop, with so many log words.
+pub fn branching_loops(log_words: u32) -> Vec<Loop> {
+    SIZES_AND_ORDERS.map(|(size, order)| branching_loop(log_words, size, order)).into()
 }
 
 /// A distance of a branch.
@@ -55,6 +64,8 @@ const SPACE: (u64, u64) = (1, 1);
 /// A constant distance.
 const DISTANCE: (u64, u64) = (1, 8);
 const RAM: u64 = 4;
+/// A condition that is always true.
+const ALWAYS: (u64, u64) = (1, 1);
 
 /// Counts in one register and adds the count to another, four operations a round.
 fn counting_loop(operations: u32, size: u64, order: u64) -> Loop {
@@ -108,12 +119,40 @@ fn copying_loop(operations: u32, size: u64, order: u64) -> Loop {
     Loop { name: "copying", size, program, state: state(operations, 2 * half as usize) }
 }
 
+/// Counts, and adds every other count to a sum: a round has four or five operations, of which two are
+/// CBRANCHes. It goes on for ever on every way, so each CBRANCH has a window of as many operations as it
+/// may have.
+fn branching_loop(log_words: u32, size: u64, order: u64) -> Loop {
+    let register = (3, size);
+    let constant = (1, size);
+    let bit = (2, size);
+    // The byte that has the lowest bit.
+    let low = if order == BIG { size - 1 } else { 0 };
+    let list = [
+        // INT_ADD: count = count + 1.
+        [head(21, &[register, register, constant]), 0, 0, 1, 0],
+        // INT_AND: whether the count is odd.
+        [head(29, &[bit, register, constant]), 0, 0, 1, 0],
+        // CBRANCH: past the next, where it is.
+        [head(5, &[ABSENT, DISTANCE, CONDITION]), 0, 2, low, 0],
+        // INT_ADD: sum = sum + count.
+        [head(21, &[register, register, register]), 8, 8, 0, 0],
+        // CBRANCH: the next round.
+        [head(5, &[ABSENT, DISTANCE, ALWAYS]), 0, back(4), 1, 0],
+        // BRANCH: all of it again.
+        [head(4, &[ABSENT, DISTANCE]), 0, back(5), 0, 0],
+    ];
+    let program = Program { order, address_size: size, list: list.concat() };
+    Loop { name: "branching", size, program, state: state(log_words, 0) }
+}
+
 fn state(operations: u32, ram_len: usize) -> State {
     State {
         unique: vec![0; 64],
         register: vec![0; 64],
         ram: (0..ram_len).map(|offset| offset as u8).collect(),
         log: vec![0; operations as usize],
+        journal: vec![0; JOURNAL_WORDS],
     }
 }
 

@@ -1,4 +1,5 @@
-//! Times the proved interpreter against a plain one in safe Rust, on loops of one million operations.
+//! Times the proved interpreter against a plain one in safe Rust, on loops of one million operations, and
+//! its speculative run against its labelled run.
 //!
 //! `cargo run --release` prints the times and their ratios, `cargo run --release -- instructions` counts
 //! instructions; `cargo test --release` checks that both do the same, and that the archive is as it
@@ -28,6 +29,8 @@ pub enum Kind {
     Rust,
     Plain,
     Labelled,
+    /// With a window of so many operations.
+    Speculative(u64),
 }
 
 fn main() {
@@ -50,7 +53,7 @@ fn main() {
     }
 }
 
-/// The report of a run of one kind. The labels are those of a labelled run.
+/// The report of a run of one kind. The labels are those of a labelled or a speculative run.
 fn run(
     kind: Kind,
     program: &Program,
@@ -62,13 +65,16 @@ fn run(
         Kind::Rust => rust_run(program, budget, state),
         Kind::Plain => library::run(program, budget, state),
         Kind::Labelled => library::labelled_run(program, budget, state, labels),
+        Kind::Speculative(window) => {
+            library::speculative_run(program, budget, window, state, labels)
+        }
     }
 }
 
 /// The report of the plain interpreter, decoding included.
 fn rust_run(program: &Program, budget: u32, state: &mut State) -> [u64; 5] {
     let operations = decode(&program.list);
-    let State { unique, register, ram, log } = state;
+    let State { unique, register, ram, log, .. } = state;
     let mut memory = Memory { is_big: program.order == 1, unique, register, ram };
     interpreter::run(&operations, 0, budget, &mut memory, log)
 }

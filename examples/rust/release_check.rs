@@ -1,7 +1,7 @@
 //! Says of four stubs whether they may be released: only one whose labelled run comes to its end. A run is made in
 //! slices, as by a desk that wants to look at the clock in between.
 
-#[allow(dead_code)] // what the other example uses
+#[allow(dead_code)] // what the other examples use
 mod undrelvoa;
 
 use undrelvoa::{

@@ -1,5 +1,5 @@
-//! The library for Rust: a safe function over the labelled run of the C interface, and what an example
-//! needs of its numbers. The other calls of include/undrelvoa.h go the same way.
+//! The library for Rust: safe functions over the labelled and the speculative run of the C interface, and what
+//! an example needs of its numbers. The other calls of include/undrelvoa.h go the same way.
 
 /// Byte order, address size, and for each space its wordsize: how many bytes a pointer of LOAD or STORE counts as one.
 pub struct Settings {
@@ -15,6 +15,16 @@ impl Settings {
     pub fn byte_addressed(order: u64, address_size: u64) -> Settings {
         Settings { order, address_size, unique_wordsize: 1, register_wordsize: 1, ram_wordsize: 1 }
     }
+
+    fn words(&self) -> [u64; 5] {
+        [
+            self.order,
+            self.address_size,
+            self.unique_wordsize,
+            self.register_wordsize,
+            self.ram_wordsize,
+        ]
+    }
 }
 
 pub const LITTLE: u64 = 0;
@@ -28,6 +38,8 @@ pub const RAM: u64 = 4;
 /// The opcodes that the examples use.
 pub const COPY: u64 = 1;
 pub const LOAD: u64 = 2;
+pub const CBRANCH: u64 = 5;
+pub const INT_LESSEQUAL: u64 = 17;
 pub const INT_XOR: u64 = 28;
 pub const INT_AND: u64 = 29;
 
@@ -42,6 +54,13 @@ pub const BUDGET: u64 = 2;
 pub const SIZE: u64 = 25;
 pub const LEAK: u64 = 31;
 pub const BOUNDS: u64 = 32;
+pub const LOG: u64 = 34;
+pub const LEAK_AHEAD: u64 = 35;
+
+/// Words of a journal for each operation of a window.
+pub const JOURNAL_WORDS_PER_OPERATION: usize = 4;
+/// What is added to the log words of a window.
+pub const WINDOW_MARK: u64 = 1 << 63;
 
 /// A varnode of an operation: a number of bytes at an offset of a space. In the constant space the offset is the value.
 #[derive(Clone, Copy)]
@@ -79,6 +98,12 @@ pub struct Report {
     pub value: u64,
 }
 
+impl Report {
+    fn of([ending, index, executed, logged, value]: [u64; 5]) -> Report {
+        Report { ending, index, executed, logged, value }
+    }
+}
+
 /// The bytes of the three spaces, or their labels.
 pub struct Spaces {
     pub unique: Vec<u8>,
@@ -112,6 +137,34 @@ unsafe extern "C" {
         report: *mut u64,
         report_len: usize,
     ) -> u64;
+
+    fn undrelvoa_speculative_run(
+        settings: *const u64,
+        settings_len: usize,
+        list: *const u64,
+        list_len: usize,
+        start: u64,
+        budget: u32,
+        window: u64,
+        unique: *mut u8,
+        unique_len: usize,
+        register_space: *mut u8,
+        register_len: usize,
+        ram: *mut u8,
+        ram_len: usize,
+        unique_labels: *mut u8,
+        unique_labels_len: usize,
+        register_labels: *mut u8,
+        register_labels_len: usize,
+        ram_labels: *mut u8,
+        ram_labels_len: usize,
+        log: *mut u64,
+        log_len: usize,
+        journal: *mut u64,
+        journal_len: usize,
+        report: *mut u64,
+        report_len: usize,
+    ) -> u64;
 }
 
 /// Runs a list from `start` on, at most `budget` operations. The start of `log` becomes the log words written.
@@ -124,13 +177,7 @@ pub fn labelled_run(
     labels: &mut Spaces,
     log: &mut [u64],
 ) -> Report {
-    let settings = [
-        settings.order,
-        settings.address_size,
-        settings.unique_wordsize,
-        settings.register_wordsize,
-        settings.ram_wordsize,
-    ];
+    let settings = settings.words();
     let mut report = [0; 5];
     // SAFETY: each pointer and length are those of one slice or Vec, and each of those that are written is borrowed by
     // this call alone, so none overlaps another.
@@ -161,6 +208,54 @@ pub fn labelled_run(
         )
     };
     assert_eq!(answer, 0, "settings and report have the words that the library asks for");
-    let [ending, index, executed, logged, value] = report;
-    Report { ending, index, executed, logged, value }
+    Report::of(report)
+}
+
+/// The same, and at each CBRANCH at most `window` operations of the way not taken, which are undone. The journal has
+/// JOURNAL_WORDS_PER_OPERATION words for each of them.
+pub fn speculative_run(
+    settings: &Settings,
+    list: &[u64],
+    start: u64,
+    budget: u32,
+    window: u64,
+    memory: &mut Spaces,
+    labels: &mut Spaces,
+    log: &mut [u64],
+    journal: &mut [u64],
+) -> Report {
+    let settings = settings.words();
+    let mut report = [0; 5];
+    // SAFETY: as for the labelled run; the journal too is borrowed by this call alone.
+    let answer = unsafe {
+        undrelvoa_speculative_run(
+            settings.as_ptr(),
+            settings.len(),
+            list.as_ptr(),
+            list.len(),
+            start,
+            budget,
+            window,
+            memory.unique.as_mut_ptr(),
+            memory.unique.len(),
+            memory.register.as_mut_ptr(),
+            memory.register.len(),
+            memory.ram.as_mut_ptr(),
+            memory.ram.len(),
+            labels.unique.as_mut_ptr(),
+            labels.unique.len(),
+            labels.register.as_mut_ptr(),
+            labels.register.len(),
+            labels.ram.as_mut_ptr(),
+            labels.ram.len(),
+            log.as_mut_ptr(),
+            log.len(),
+            journal.as_mut_ptr(),
+            journal.len(),
+            report.as_mut_ptr(),
+            report.len(),
+        )
+    };
+    assert_eq!(answer, 0, "settings and report have the words that the library asks for");
+    Report::of(report)
 }

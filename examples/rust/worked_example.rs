@@ -1,7 +1,7 @@
 //! The worked example of README.md, through the library: prints what ./run-case prints for
 //! cases/operations/worked-example/input.
 
-#[allow(dead_code)] // what the other example uses
+#[allow(dead_code)] // what the other examples use
 mod undrelvoa;
 
 use undrelvoa::{

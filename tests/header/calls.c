@@ -122,6 +122,88 @@ static void labelled_runs(void) {
     expect("short report", undrelvoa_labelled_run(little1, 5, list, 10, 0, 9, unique, 1, registers, 4, ram, 8, of_unique, 1, of_registers, 4, of_ram, 8, log, 1, report, 4), 11);
 }
 
+/* A look into a table of ram behind a check of its index, and a LOAD at what is found there. The index is past the table,
+ * so the CBRANCH goes to the end, and its window looks. */
+static const uint64_t table_stub[] = {
+    0x21112111, 2, 4, 0, 0, /* INT_LESSEQUAL: unique 2 = 4 <= the index at unique 0 */
+    0x21110005, 0, 3, 2, 0, /* CBRANCH: to the end, by unique 2 */
+    0x21112102, 1, 4, 0, 0, /* LOAD: unique 1 = the entry of ram at unique 0 */
+    0x21112102, 3, 4, 1, 0, /* LOAD: unique 3 = the byte of ram at unique 1 */
+};
+enum { STUB_WORDS = sizeof table_stub / sizeof table_stub[0], STUB_BYTES = 4, STUB_RAM = 8, STUB_LOG = 2, STUB_JOURNAL = 9 };
+
+/* Known results: with the byte behind the table public the window ends with the list, and with it secret the second LOAD is
+ * LEAK AHEAD. Each run has a journal of two entries and a word more. */
+static void speculative_runs(void) {
+    const uint64_t good_log[STUB_LOG] = {(uint64_t)1 << 32 | 1, UNDRELVOA_WINDOW_MARK + ((uint64_t)2 << 32 | 5)};
+    int secret;
+    for (secret = 0; secret <= 1; secret++) {
+        uint8_t unique[STUB_BYTES] = {5, 1, 2, 3}, ram[STUB_RAM] = {0}, of_unique[STUB_BYTES] = {0}, of_ram[STUB_RAM] = {0};
+        uint64_t log[STUB_LOG + 1] = {8, 8, 8}, journal[STUB_JOURNAL] = {6, 6, 6, 6, 6, 6, 6, 6, 6}, report[6] = {7, 7, 7, 7, 7, 9};
+        size_t i;
+        ram[5] = 9;
+        of_ram[5] = (uint8_t)secret;
+        expect("speculative run", undrelvoa_speculative_run(little1, 5, table_stub, STUB_WORDS, 0, 9, 2, unique, STUB_BYTES, NULL, 0, ram, STUB_RAM, of_unique, STUB_BYTES, NULL, 0, of_ram, STUB_RAM, log, STUB_LOG + 1, journal, STUB_JOURNAL, report, 6), 0);
+        expect("its ending", report[UNDRELVOA_REPORT_ENDING], secret ? UNDRELVOA_LEAK_AHEAD : UNDRELVOA_END);
+        expect("its index", report[UNDRELVOA_REPORT_INDEX], secret ? 1 : 4);
+        expect("executed", report[UNDRELVOA_REPORT_EXECUTED], secret ? 1 : 2);
+        expect("log words", report[UNDRELVOA_REPORT_LOGGED], STUB_LOG);
+        expect("no value", report[UNDRELVOA_REPORT_VALUE], 0);
+        expect("the word after the report", report[5], 9);
+        expect("the word after the log", log[STUB_LOG], 8);
+        for (i = 0; i < STUB_LOG; i++) {
+            expect("log word", log[i], good_log[i]);
+        }
+        for (i = 0; i < STUB_JOURNAL; i++) {
+            expect("journal word", journal[i], i < 8 ? 0 : 6);
+        }
+        expect("what the window wrote, undone", unique[1], 1);
+        expect("its label, undone", of_unique[1], UNDRELVOA_PUBLIC);
+        expect("what the run wrote", unique[2], 1);
+    }
+}
+
+/* A window out of range and a journal too short, each with every buffer as lent then; and those that are just good. */
+static void windows(void) {
+    static const struct {
+        uint64_t window;
+        size_t journal_len;
+        uint64_t wanted;
+    } calls[] = {
+        {0, 0, UNDRELVOA_END},
+        {1, 4, UNDRELVOA_END},
+        {1, 3, UNDRELVOA_LENGTH},
+        {1, 0, UNDRELVOA_LENGTH},
+        {63, 252, UNDRELVOA_END},
+        {UNDRELVOA_MAX_WINDOW, UNDRELVOA_MAX_WINDOW * UNDRELVOA_JOURNAL_WORDS_PER_OPERATION, UNDRELVOA_END},
+        {UNDRELVOA_MAX_WINDOW, UNDRELVOA_MAX_WINDOW * UNDRELVOA_JOURNAL_WORDS_PER_OPERATION - 1, UNDRELVOA_LENGTH},
+        {UNDRELVOA_MAX_WINDOW + 1, 300, UNDRELVOA_SETTING},
+        {UNDRELVOA_MAX_WINDOW + 1, 0, UNDRELVOA_SETTING},
+        {(uint64_t)1 << 62, 0, UNDRELVOA_SETTING},
+        {UINT64_MAX, 300, UNDRELVOA_SETTING},
+    };
+    const uint64_t list[5] = {0x00112101, 0, 9, 0, 0}; /* COPY: unique 0 = 9 */
+    size_t call, i;
+    for (call = 0; call < sizeof calls / sizeof calls[0]; call++) {
+        uint8_t unique[1] = {7}, labels[1] = {UNDRELVOA_SECRET};
+        uint64_t log[1] = {8}, journal[300], report[5] = {7, 7, 7, 7, 7}, changed = 0;
+        const int runs = calls[call].wanted == UNDRELVOA_END;
+        for (i = 0; i < 300; i++) {
+            journal[i] = 6;
+        }
+        expect("speculative run", undrelvoa_speculative_run(little8, 5, list, 5, 0, 9, calls[call].window, unique, 1, NULL, 0, NULL, 0, labels, 1, NULL, 0, NULL, 0, log, 1, calls[call].journal_len == 0 ? NULL : journal, calls[call].journal_len, report, 5), 0);
+        for (i = 0; i < 300; i++) {
+            changed += journal[i] != 6;
+        }
+        expect("a window and its journal", report[UNDRELVOA_REPORT_ENDING], calls[call].wanted);
+        expect("their journal words", changed, runs ? calls[call].journal_len : 0);
+        expect("their index", report[UNDRELVOA_REPORT_INDEX], runs ? 1 : 0);
+        expect("their byte", unique[0], runs ? 9 : 7);
+        expect("their label", labels[0], runs ? UNDRELVOA_PUBLIC : UNDRELVOA_SECRET);
+        expect("their log", log[0], 8);
+    }
+}
+
 static void shown(void) {
     uint8_t unique[4] = {0}, registers[4] = {0}, ram[4] = {0};
     uint64_t place[3] = {7, 7, 7};
@@ -148,6 +230,10 @@ static void names(void) {
            0x2248110003);
     expect("log index", UNDRELVOA_LOG_INDEX(0x0000000100000005), 1);
     expect("what a log word shows", UNDRELVOA_LOG_SHOWN(0x0000000100000005), 5);
+    expect("a word of the run", UNDRELVOA_LOG_AHEAD(0x0000000100000005), 0);
+    expect("a word of a window", UNDRELVOA_LOG_AHEAD(0x8000000100000005), 1);
+    expect("its log index", UNDRELVOA_LOG_INDEX(0x8000000100000005), 1);
+    expect("what it shows", UNDRELVOA_LOG_SHOWN(0x8000000100000005), 5);
     expect("a size of 24", UNDRELVOA_DESCRIPTOR(UNDRELVOA_SPACE_REGISTER, 24), 255);
     expect("a space of 16", UNDRELVOA_DESCRIPTOR(16, 1), 255);
     expect("an opcode of 257", UNDRELVOA_OPERATION_HEAD(257, 0, 0, 0, 0), 255);
@@ -190,6 +276,10 @@ static void numbers(void) {
         {"bytes of a space", UNDRELVOA_MAX_SPACE_BYTES, 65536},
         {"bytes of a varnode", UNDRELVOA_MAX_SIZE, 8},
         {"budget", UNDRELVOA_MAX_BUDGET, 4294967295},
+        {"operations of a window", UNDRELVOA_MAX_WINDOW, 64},
+        {"words of a journal for each", UNDRELVOA_JOURNAL_WORDS_PER_OPERATION, 4},
+        {"mark of a window", UNDRELVOA_WINDOW_MARK, 0x8000000000000000},
+        {"leak ahead", UNDRELVOA_LEAK_AHEAD, 35},
         {"words of an operation", UNDRELVOA_OPERATION_WORDS, 5},
         {"absent", UNDRELVOA_ABSENT, 0},
     };
@@ -231,21 +321,23 @@ static void settings(void) {
     for (n = 0; n <= 6; n++) {
         uint64_t wanted = n == UNDRELVOA_SETTINGS_WORDS ? UNDRELVOA_ANSWER_DONE : UNDRELVOA_ANSWER_LENGTH;
         int call;
-        for (call = 0; call < 5; call++) {
+        for (call = 0; call < 6; call++) {
             uint8_t unique[1] = {7}, labels[1] = {UNDRELVOA_SECRET};
-            uint64_t log[1] = {7}, report[5] = {7, 7, 7, 7, 7}, answer;
+            uint64_t log[1] = {7}, journal[4] = {7, 7, 7, 7}, report[5] = {7, 7, 7, 7, 7}, answer;
             int taken = n == UNDRELVOA_SETTINGS_WORDS, runs = call > 0;
             switch (call) {
             case 0: answer = undrelvoa_validate(words, n, 1, 0, 0, list, 5, report, 5); break;
             case 1: answer = undrelvoa_run(words, n, list, 5, 0, 9, unique, 1, NULL, 0, NULL, 0, log, 1, report, 5); break;
             case 2: answer = undrelvoa_step(words, n, list, 5, 0, unique, 1, NULL, 0, NULL, 0, log, 1, report, 5); break;
             case 3: answer = undrelvoa_labelled_run(words, n, list, 5, 0, 9, unique, 1, NULL, 0, NULL, 0, labels, 1, NULL, 0, NULL, 0, log, 1, report, 5); break;
-            default: answer = undrelvoa_labelled_step(words, n, list, 5, 0, unique, 1, NULL, 0, NULL, 0, labels, 1, NULL, 0, NULL, 0, log, 1, report, 5);
+            case 4: answer = undrelvoa_labelled_step(words, n, list, 5, 0, unique, 1, NULL, 0, NULL, 0, labels, 1, NULL, 0, NULL, 0, log, 1, report, 5); break;
+            default: answer = undrelvoa_speculative_run(words, n, list, 5, 0, 9, 1, unique, 1, NULL, 0, NULL, 0, labels, 1, NULL, 0, NULL, 0, log, 1, journal, 4, report, 5);
             }
             expect("settings of n words", answer, wanted);
             expect("the report then", report[UNDRELVOA_REPORT_ENDING], taken ? UNDRELVOA_END : 7);
             expect("the byte then", unique[0], taken && runs ? 9 : 7);
             expect("the label then", labels[0], taken && call > 2 ? UNDRELVOA_PUBLIC : UNDRELVOA_SECRET);
+            expect("the journal then", journal[3], taken && call == 5 ? 0 : 7);
         }
     }
     expect("no settings at all", undrelvoa_validate(NULL, 0, 1, 0, 0, list, 5, NULL, 0), UNDRELVOA_ANSWER_LENGTH);
@@ -312,31 +404,38 @@ static void empty(void) {
     expect("labelled run", undrelvoa_labelled_run(little8, 5, NULL, 0, 0, 9, NULL, 0, NULL, 0, NULL, 0, NULL, 0, NULL, 0, NULL, 0, NULL, 0, report, 5), 0);
     expect("an empty run", report[UNDRELVOA_REPORT_ENDING], UNDRELVOA_END);
     expect("labelled step", undrelvoa_labelled_step(little8, 5, NULL, 0, 0, NULL, 0, NULL, 0, NULL, 0, NULL, 0, NULL, 0, NULL, 0, NULL, 0, NULL, 0), UNDRELVOA_ANSWER_LENGTH);
+    expect("speculative run", undrelvoa_speculative_run(little8, 5, NULL, 0, 0, 9, 0, NULL, 0, NULL, 0, NULL, 0, NULL, 0, NULL, 0, NULL, 0, NULL, 0, NULL, 0, report, 5), 0);
+    expect("an empty run", report[UNDRELVOA_REPORT_ENDING], UNDRELVOA_END);
+    expect("speculative run", undrelvoa_speculative_run(NULL, 0, NULL, 0, 0, 9, 1, NULL, 0, NULL, 0, NULL, 0, NULL, 0, NULL, 0, NULL, 0, NULL, 0, NULL, 0, NULL, 0), UNDRELVOA_ANSWER_LENGTH);
     expect("show", undrelvoa_show(NULL, 0, NULL, 0, NULL, 0, UNDRELVOA_SPACE_RAM, 0, 1, place, UNDRELVOA_PLACE_WORDS), 0);
     expect("nothing to show", place[UNDRELVOA_PLACE_SPACE] + place[UNDRELVOA_PLACE_OFFSET] + place[UNDRELVOA_PLACE_BYTES], 0);
     expect("show", undrelvoa_show(NULL, 0, NULL, 0, NULL, 0, UNDRELVOA_SPACE_RAM, 0, 1, NULL, 0), UNDRELVOA_ANSWER_LENGTH);
 }
 
 /* Counts a byte down from `from` in a loop, with the same list and settings as the other threads, and the smallest stack;
- * every other thread with labels. */
+ * of three threads one without labels, one with labels, and one with a window of two operations. */
 static uint64_t loop[10];
 
 static void *count_down(void *from) {
+    const uint8_t turns = *(uint8_t *)from;
     uint8_t registers[2] = {0}, labels[2] = {0};
-    uint64_t log[256], report[5];
-    registers[0] = *(uint8_t *)from;
-    if (registers[0] % 2 == 0) {
-        undrelvoa_run(little8, 5, loop, 10, 0, 100000, NULL, 0, registers, 2, NULL, 0, log, 256, report, 5);
-    } else {
-        undrelvoa_labelled_run(little8, 5, loop, 10, 0, 100000, NULL, 0, registers, 2, NULL, 0, NULL, 0, labels, 2, NULL, 0, log, 256, report, 5);
+    uint64_t log[256], journal[8], report[5], ahead = 0;
+    registers[0] = turns;
+    switch (turns % 3) {
+    case 0: undrelvoa_run(little8, 5, loop, 10, 0, 100000, NULL, 0, registers, 2, NULL, 0, log, 256, report, 5); break;
+    case 1: undrelvoa_labelled_run(little8, 5, loop, 10, 0, 100000, NULL, 0, registers, 2, NULL, 0, NULL, 0, labels, 2, NULL, 0, log, 256, report, 5); break;
+    default:
+        undrelvoa_speculative_run(little8, 5, loop, 10, 0, 100000, 2, NULL, 0, registers, 2, NULL, 0, NULL, 0, labels, 2, NULL, 0, log, 256, journal, 8, report, 5);
+        ahead = 1;
     }
     *(uint8_t *)from = report[UNDRELVOA_REPORT_ENDING] == UNDRELVOA_END && registers[0] == 0
-                       && report[UNDRELVOA_REPORT_LOGGED] * 2 == report[UNDRELVOA_REPORT_EXECUTED]
-                       && report[UNDRELVOA_REPORT_LOGGED] == *(uint8_t *)from;
+                       && report[UNDRELVOA_REPORT_EXECUTED] == 2 * (uint64_t)turns
+                       && report[UNDRELVOA_REPORT_LOGGED] == turns + ahead;
     return NULL;
 }
 
-/* Known results: n turns of two operations, each with one log word. */
+/* Known results: n turns of two operations, each with one log word. The way not taken is the end, and of the last turn one
+ * turn more: one marked word. */
 static void threads(void) {
     enum { COUNT = 64 };
     static uint8_t from[COUNT];
@@ -351,7 +450,7 @@ static void threads(void) {
     failures += pthread_attr_init(&small) != 0;
     failures += pthread_attr_setstacksize(&small, 16384) != 0;
     for (i = 0; i < COUNT; i++) {
-        from[i] = (uint8_t)(i * 3 + 1);
+        from[i] = (uint8_t)(i * 2 + 1);
         failures += pthread_create(&started[i], &small, count_down, &from[i]) != 0;
     }
     for (i = 0; i < COUNT; i++) {
@@ -368,6 +467,8 @@ int main(void) {
     verdicts();
     runs();
     labelled_runs();
+    speculative_runs();
+    windows();
     shown();
     limits();
     settings();

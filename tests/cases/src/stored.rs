@@ -1,4 +1,5 @@
-//! The cases that are stored in `cases/`: a folder for each heading, and in it one for each case.
+//! The cases that are stored in `cases/`, and the vectors in `vectors/`: a folder for each heading, and in
+//! it one for each case.
 
 use std::collections::BTreeMap;
 use std::fs;
@@ -29,18 +30,19 @@ impl StoredCase {
 /// The files that the folder of a case has.
 pub const FILES: [&str; 3] = ["about.md", "input", "output"];
 
-/// Reads the cases, each under its path in `cases/`: heading and name. What is missing is named.
+/// Reads the cases of a folder, each under its path there: heading and name. What is missing is named.
 pub fn read(cases: &Path) -> Result<BTreeMap<String, StoredCase>, String> {
+    let top = cases.file_name().unwrap_or_default().display();
     let mut stored = BTreeMap::new();
-    for heading in names_in(cases).map_err(|error| format!("cases: {error}"))? {
+    for heading in names_in(cases).map_err(|error| format!("{top}: {error}"))? {
         let folder = cases.join(&heading);
         if !folder.is_dir() {
             continue;
         }
-        for name in names_in(&folder).map_err(|error| format!("cases/{heading}: {error}"))? {
+        for name in names_in(&folder).map_err(|error| format!("{top}/{heading}: {error}"))? {
             let path = format!("{heading}/{name}");
             let case = read_case(&cases.join(&path)).map_err(|(file, error)| {
-                format!("cases/{path}/{file}: {error}; a case is a folder cases/HEADING/NAME with {FILES:?}")
+                format!("{top}/{path}/{file}: {error}; a case is a folder {top}/HEADING/NAME with {FILES:?}")
             })?;
             stored.insert(path, case);
         }

@@ -33,6 +33,11 @@ pub const GOOD_AND_BAD_ORDERS: [u64; 6] = [0, 1, 2, 256, (1 << 32) + 1, u64::MAX
 /// Numbers that are no wordsize: beside the good ones, and large ones whose low bits make a good one.
 pub const BAD_WORDSIZES: [u64; 8] = [0, 9, 16, 255, 256 + 1, (1 << 32) + 4, 1 << 63, u64::MAX];
 
+/// Numbers that are no window: beside the largest, and large ones whose low bits, or those of four times
+/// the number, make a good one.
+pub const BAD_WINDOWS: [u64; 11] =
+    [65, 66, 128, 256, 256 + 64, 1 << 32, (1 << 32) + 1, 1 << 62, (1 << 62) + 1, 1 << 63, u64::MAX];
+
 /// Offsets that wrap when a size is added, or fit when cut to fewer bits.
 pub const LARGE_OFFSETS: [u64; 16] = [
     1 << 16,

@@ -2,12 +2,22 @@
 
 pub mod agreement;
 pub mod campaign;
+pub mod counts;
+mod guards;
 pub mod inputs;
 pub mod lists;
+pub mod parts;
 pub mod programs;
 pub mod random;
 pub mod runs;
+pub mod secrets;
+pub mod speculations;
+pub mod windows;
 pub mod wordsizes;
+
+// The stored files of tests/cases. That package runs another program, so it is no dependency.
+#[path = "../../cases/src/stored.rs"]
+pub mod stored;
 
 use reference::answers::{Place, RunCall, ValueCall, VerdictCall};
 use reference::varnode::{Varnode, Wordsizes};
@@ -113,6 +123,34 @@ extern "C" {
         ram_labels_len: usize,
         log: *mut u64,
         log_len: usize,
+        report: *mut u64,
+        report_len: usize,
+    ) -> u64;
+
+    fn undrelvoa_speculative_run(
+        settings: *const u64,
+        settings_len: usize,
+        list: *const u64,
+        list_len: usize,
+        start: u64,
+        budget: u32,
+        window: u64,
+        unique: *mut u8,
+        unique_len: usize,
+        register_space: *mut u8,
+        register_len: usize,
+        ram: *mut u8,
+        ram_len: usize,
+        unique_labels: *mut u8,
+        unique_labels_len: usize,
+        register_labels: *mut u8,
+        register_labels_len: usize,
+        ram_labels: *mut u8,
+        ram_labels_len: usize,
+        log: *mut u64,
+        log_len: usize,
+        journal: *mut u64,
+        journal_len: usize,
         report: *mut u64,
         report_len: usize,
     ) -> u64;
@@ -327,6 +365,53 @@ pub fn labelled_run(
             labels.ram.len(),
             log.as_mut_ptr(),
             log.len(),
+            report.as_mut_ptr(),
+            report.len(),
+        )
+    }
+}
+
+/// The buffers of a speculative run.
+pub struct LentBuffers<'a> {
+    pub settings: &'a [u64],
+    pub list: &'a [u64],
+    pub memory: LentSpaces<'a>,
+    pub labels: LentSpaces<'a>,
+    pub log: &'a mut [u64],
+    pub journal: &'a mut [u64],
+    pub report: &'a mut [u64],
+}
+
+/// The interpreter's answer to a call of `undrelvoa_speculative_run`.
+pub fn speculative_run(start: u64, budget: u32, window: u64, lent: LentBuffers) -> u64 {
+    let LentBuffers { settings, list, memory, labels, log, journal, report } = lent;
+    // SAFETY: each pointer and length are those of one slice, lent to this call alone; the eleven
+    // slices do not overlap.
+    unsafe {
+        undrelvoa_speculative_run(
+            settings.as_ptr(),
+            settings.len(),
+            list.as_ptr(),
+            list.len(),
+            start,
+            budget,
+            window,
+            memory.unique.as_mut_ptr(),
+            memory.unique.len(),
+            memory.register.as_mut_ptr(),
+            memory.register.len(),
+            memory.ram.as_mut_ptr(),
+            memory.ram.len(),
+            labels.unique.as_mut_ptr(),
+            labels.unique.len(),
+            labels.register.as_mut_ptr(),
+            labels.register.len(),
+            labels.ram.as_mut_ptr(),
+            labels.ram.len(),
+            log.as_mut_ptr(),
+            log.len(),
+            journal.as_mut_ptr(),
+            journal.len(),
             report.as_mut_ptr(),
             report.len(),
         )

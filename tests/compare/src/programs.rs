@@ -4,7 +4,7 @@
 use reference::answers::{LentWords, RunCall, VerdictCall};
 use reference::arithmetic::fits;
 use reference::bytes::{write, ByteOrder};
-use reference::list::{list_of, varnode, Entry};
+use reference::list::{descriptor, list_of, varnode, Entry};
 use reference::machine::State;
 use reference::memory::{Spaces, PUBLIC, SECRET};
 use reference::opcodes::{Opcode, Operation, OPERATIONS};
@@ -16,6 +16,9 @@ use crate::inputs::{first_product_too_large, largest_value, LARGE_OFFSETS};
 use crate::lists::{Frame, Generator};
 use crate::random::Random;
 use crate::runs::Case;
+
+mod branches;
+mod speculative;
 
 /// The most operations that a run executes which does not end by itself.
 const LONGEST_RUN: u32 = 150;
@@ -33,7 +36,7 @@ pub struct Programs {
     lists: Generator,
 }
 
-/// A list that grows, and the values that its memory should have where it starts.
+/// A list that grows, and the values and labels that its memory should have where it starts.
 struct Draft {
     settings: Settings,
     frame: Frame,
@@ -41,12 +44,29 @@ struct Draft {
     many_accesses: bool,
     entries: Vec<Entry>,
     values: Vec<(Varnode, u64)>,
+    labels: Vec<(Varnode, u8)>,
 }
 
 impl Draft {
     fn new(settings: Settings, lengths: Lengths, count: u64) -> Draft {
         let frame = Frame { address_size: settings.address_size, lengths, count };
-        Draft { settings, frame, many_accesses: false, entries: vec![], values: vec![] }
+        Draft {
+            settings,
+            frame,
+            many_accesses: false,
+            entries: vec![],
+            values: vec![],
+            labels: vec![],
+        }
+    }
+
+    /// The index of the operation that is added next.
+    fn index(&self) -> u64 {
+        self.entries.len() as u64
+    }
+
+    fn is_full(&self) -> bool {
+        self.index() >= self.frame.count
     }
 
     /// The wordsize of the space that a LOAD or a STORE names.
@@ -145,13 +165,22 @@ impl Programs {
     /// The case of a draft that is still empty, without budget and log.
     fn filled(&mut self, mut draft: Draft) -> Case {
         self.fill(&mut draft);
+        self.finished(draft)
+    }
+
+    /// The case of a draft, without budget and log.
+    fn finished(&mut self, mut draft: Draft) -> Case {
         let Draft { settings, frame: Frame { lengths, count, .. }, .. } = draft;
+        draft.entries.truncate(count as usize);
         let mut memory = self.memory(&lengths);
         let order = if settings.order == 0 { ByteOrder::Little } else { ByteOrder::Big };
         for (place, value) in &draft.values {
             write(order, *value, memory.part_mut(place));
         }
-        let labels = Some(self.labels(&lengths));
+        let mut labels = self.labels(&lengths);
+        for (place, label) in &draft.labels {
+            labels.part_mut(place).fill(*label);
+        }
         let start = match self.below(8) {
             0 => count,
             1 | 2 => self.below(count + 1),
@@ -159,7 +188,7 @@ impl Programs {
         };
         let program = Program { settings, list: list_of(&draft.entries) };
         let call = RunCall { program, start, budget: 0 };
-        Case { call, state: State { memory, labels, log: vec![] } }
+        Case { call, state: State { memory, labels: Some(labels), log: vec![] } }
     }
 
     fn lengths(&mut self) -> Lengths {
@@ -222,19 +251,18 @@ impl Programs {
 
     /// Makes the list of single operations and loops that keep every rule.
     fn fill(&mut self, draft: &mut Draft) {
-        while (draft.entries.len() as u64) < draft.frame.count {
+        while !draft.is_full() {
             if self.once_in(10) {
                 self.add_loop(draft);
             } else {
                 self.add_operation(draft);
             }
         }
-        draft.entries.truncate(draft.frame.count as usize);
     }
 
     /// Adds one operation; BRANCH, at least, always has room.
     fn add_operation(&mut self, draft: &mut Draft) {
-        let index = draft.entries.len() as u64;
+        let index = draft.index();
         let mut entry = loop {
             let is_access = draft.many_accesses && !self.once_in(4);
             let operation = if is_access { self.access() } else { self.operation() };
@@ -301,8 +329,7 @@ impl Programs {
     /// A pointer for a LOAD or a STORE: mostly in bounds, else around the end of the space or of the
     /// 64-bit numbers, or with a product that is in bounds when cut to fewer bits.
     fn address(&mut self, entry: &Entry, draft: &Draft) -> u64 {
-        let accessed = [OUTPUT, INPUT2].map(|place| entry.descriptors[place] % 16);
-        let size = u64::from(accessed[0].max(accessed[1]));
+        let size = accessed_size(entry);
         let len = draft.frame.lengths.of(entry.offsets[INPUT0]).unwrap_or(0);
         let wordsize = draft.wordsize(entry);
         let past_the_last_byte = (len + 1).saturating_sub(size);
@@ -337,8 +364,7 @@ impl Programs {
         let lengths = draft.frame.lengths;
         let places = self.lists.output(1, &lengths).zip(self.lists.output(address_size, &lengths));
         let access = self.access();
-        let index = draft.entries.len() as u64;
-        let entry = self.lists.entry_with_room(&access, &draft.frame, index);
+        let entry = self.lists.entry_with_room(&access, &draft.frame, draft.index());
         let Some(((counter, pointer), mut access)) = places.zip(entry) else {
             return self.add_operation(draft);
         };
@@ -467,8 +493,19 @@ fn never_ends(entry: &Entry) -> bool {
 
 /// Makes a varnode the pointer of a LOAD or a STORE.
 fn point(entry: &mut Entry, pointer: Varnode) {
-    entry.descriptors[INPUT1] = (pointer.space * 16 + pointer.size) as u8;
-    entry.offsets[INPUT1] = pointer.offset;
+    put(entry, INPUT1, pointer);
+}
+
+/// How many bytes a LOAD or a STORE accesses.
+fn accessed_size(access: &Entry) -> u64 {
+    let sizes = [OUTPUT, INPUT2].map(|place| access.descriptors[place] % 16);
+    u64::from(sizes[0].max(sizes[1]))
+}
+
+/// Puts a varnode at a place of an entry.
+fn put(entry: &mut Entry, place: usize, varnode: Varnode) {
+    entry.descriptors[place] = descriptor(Some(varnode));
+    entry.offsets[place] = varnode.offset;
 }
 
 fn copy(output: Varnode, input0: Varnode) -> Entry {

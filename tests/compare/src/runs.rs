@@ -5,11 +5,11 @@ use std::fmt;
 use reference::answers::{run_answer, LentWords, RunCall};
 use reference::list::WORDS_PER_OPERATION;
 use reference::machine::State;
-use reference::memory::Spaces;
 use reference::opcodes::Opcode;
 
 use crate::agreement::RESULT_WORDS;
-use crate::{labelled_run, labelled_step, run, settings_words, step, LentSpaces};
+use crate::guards::{guard_word, Guarded, GuardedSpaces};
+use crate::{labelled_run, labelled_step, run, settings_words, step};
 
 /// Which of the interpreter's calls to make: each has a plain and a labelled form.
 #[derive(Clone, Copy, Debug, PartialEq, Eq)]
@@ -38,68 +38,6 @@ impl Case {
 impl fmt::Display for Case {
     fn fmt(&self, formatter: &mut fmt::Formatter) -> fmt::Result {
         formatter.write_str(&description(&self.call, &self.state))
-    }
-}
-
-/// A lent buffer between guards, which must stay as they are.
-struct Guarded<T> {
-    elements: Vec<T>,
-}
-
-impl<T: Copy + PartialEq> Guarded<T> {
-    /// Puts guards made by `guard`, which takes any number, around the elements.
-    fn around(lent: &[T], guard: fn(usize) -> T) -> Guarded<T> {
-        let side = || (0..GUARD).map(guard);
-        Guarded { elements: side().chain(lent.iter().copied()).chain(side()).collect() }
-    }
-
-    fn lent(&mut self) -> &mut [T] {
-        let end = self.elements.len() - GUARD;
-        &mut self.elements[GUARD..end]
-    }
-
-    /// Puts the lent elements back where they came from. Gives back whether the guards are as they
-    /// were.
-    fn give_back(self, guard: fn(usize) -> T, to: &mut [T]) -> bool {
-        let (before, rest) = self.elements.split_at(GUARD);
-        let (lent, after) = rest.split_at(to.len());
-        to.copy_from_slice(lent);
-        [before, after].iter().all(|side| side.iter().copied().eq((0..GUARD).map(guard)))
-    }
-}
-
-/// Guard elements on each side of a lent buffer.
-const GUARD: usize = 16;
-
-fn guard_byte(index: usize) -> u8 {
-    0xa5 ^ (17 * index as u8)
-}
-
-fn guard_word(index: usize) -> u64 {
-    RESULT_WORDS[index % RESULT_WORDS.len()]
-}
-
-/// Three spaces, or their labels, each between guards.
-struct GuardedSpaces {
-    spaces: [Guarded<u8>; 3],
-}
-
-impl GuardedSpaces {
-    fn around(spaces: &Spaces) -> GuardedSpaces {
-        GuardedSpaces { spaces: spaces.all().map(|space| Guarded::around(space, guard_byte)) }
-    }
-
-    fn lent(&mut self) -> LentSpaces<'_> {
-        let [unique, register, ram] = &mut self.spaces;
-        LentSpaces { unique: unique.lent(), register: register.lent(), ram: ram.lent() }
-    }
-
-    fn give_back(self, to: &mut Spaces) -> bool {
-        let mut holds = true;
-        for (space, to) in self.spaces.into_iter().zip(to.all_mut()) {
-            holds &= space.give_back(guard_byte, to);
-        }
-        holds
     }
 }
 
@@ -201,7 +139,7 @@ pub fn check_run(
 }
 
 /// A call in words: the first operations of its list, and all bytes and labels of short spaces.
-fn description(call: &RunCall, state: &State) -> String {
+pub(crate) fn description(call: &RunCall, state: &State) -> String {
     let RunCall { program, start, budget } = call;
     let mut lines = format!("{:x?}, start {start}, budget {budget}\n", program.settings);
     lines += &format!("{:?}, {} log words\n", state.memory.lengths(), state.log.len());
@@ -217,7 +155,7 @@ fn description(call: &RunCall, state: &State) -> String {
 }
 
 /// The places where a state differs from another of the same lengths, with what it holds there.
-fn differences(state: &State, other: &State) -> String {
+pub(crate) fn differences(state: &State, other: &State) -> String {
     let mut lines = String::new();
     let both = [
         ("memory", Some((&state.memory, &other.memory))),
@@ -237,7 +175,7 @@ fn differences(state: &State, other: &State) -> String {
     lines
 }
 
-fn different<'a, T: PartialEq>(
+pub(crate) fn different<'a, T: PartialEq>(
     one: &'a [T],
     other: &'a [T],
 ) -> impl Iterator<Item = (usize, (&'a T, &'a T))> {

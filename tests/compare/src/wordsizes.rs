@@ -1,8 +1,6 @@
 //! What runs did with pointers and wordsizes, counted, so that a test can ask for enough of each.
 
 use std::array::from_fn;
-use std::collections::BTreeMap;
-use std::fmt;
 
 use reference::arithmetic::{fits, modulus};
 use reference::bytes::ByteOrder;
@@ -13,6 +11,7 @@ use reference::opcodes::Opcode;
 use reference::varnode::{Varnode, Wordsizes, CONSTANT};
 use reference::verdict::Settings;
 
+use crate::counts::Counts;
 use crate::inputs::{GOOD_ORDERS, SIZES};
 use crate::lists::{entry_at, PLACES};
 use crate::runs::Case;
@@ -56,10 +55,7 @@ pub enum Event {
 }
 
 /// How often each event came.
-#[derive(Default)]
-pub struct Accesses {
-    counts: BTreeMap<Event, u64>,
-}
+pub type Accesses = Counts<Event>;
 
 impl Accesses {
     /// Counts what a run did, by what it left behind. Gives back whether that is an `Event::Run`.
@@ -138,29 +134,6 @@ impl Accesses {
             self.add(Event::WrapsAtAddressSize);
         }
     }
-
-    fn add(&mut self, event: Event) {
-        *self.counts.entry(event).or_insert(0) += 1;
-    }
-
-    /// How often an event came.
-    pub fn of(&self, event: Event) -> u64 {
-        self.counts.get(&event).copied().unwrap_or(0)
-    }
-
-    /// Fails if an event came less often than it should.
-    pub fn assert_quota(&self, event: Event, quota: u64) {
-        let count = self.of(event);
-        assert!(count >= quota, "{event:?} came {count} times, and not {quota} times or more");
-    }
-}
-
-impl fmt::Display for Accesses {
-    fn fmt(&self, formatter: &mut fmt::Formatter) -> fmt::Result {
-        let counts: Vec<String> =
-            self.counts.iter().map(|(event, count)| format!("{event:?}: {count}")).collect();
-        formatter.write_str(&counts.join(", "))
-    }
 }
 
 /// A LOAD or a STORE of a well-formed list, and what BOUNDS depends on besides its pointer's value.
@@ -202,12 +175,12 @@ impl Access {
     }
 }
 
-fn access_opcode(entry: &Entry) -> Option<Opcode> {
+pub(crate) fn access_opcode(entry: &Entry) -> Option<Opcode> {
     [Opcode::Load, Opcode::Store].into_iter().find(|&opcode| opcode as u8 == entry.opcode)
 }
 
 /// The varnodes of an entry, absent ones too.
-fn varnodes(entry: &Entry) -> [Varnode; PLACES.end] {
+pub(crate) fn varnodes(entry: &Entry) -> [Varnode; PLACES.end] {
     from_fn(|place| varnode(entry.descriptors[place], entry.offsets[place]))
 }
 
@@ -272,7 +245,7 @@ mod tests {
         let mut accesses = Accesses::default();
         let is_wide = accesses.count(&case, &report);
         assert_eq!(accesses.of(Event::Run), u64::from(is_wide));
-        accesses.counts.into_keys().filter(|&event| event != Event::Run).collect()
+        accesses.counted().filter(|&event| event != Event::Run).collect()
     }
 
     #[test]

@@ -6,9 +6,10 @@ use std::iter::zip;
 
 use compare::agreement::Tally;
 use compare::campaign::Campaign;
+use compare::parts::run_in_parts;
 use compare::programs::Programs;
-use compare::random::Random;
 use compare::runs::{check_run, interpreter_report, Case, Job};
+use compare::secrets::{assert_secrets_do_not_show, labels, with_other_secrets};
 use compare::wordsizes::{only_a_wordsize_is_refused, Accesses, Event};
 use reference::answers::{LentWords, RunCall};
 use reference::machine::State;
@@ -180,45 +181,16 @@ fn labels_hold(memory: &Spaces, labels: &Spaces) -> bool {
     memory.lengths() == labels.lengths() && labels.all().into_iter().all(are_labels)
 }
 
-/// The labels of a labelled case.
-fn labels(case: &Case) -> &Spaces {
-    case.state.labels.as_ref().expect("a labelled case")
-}
-
-/// The same case with other secret bytes, and with other words in the log.
-fn with_other_secrets(case: &Case, random: &mut Random) -> Case {
-    let mut other = case.clone();
-    for (space, labels) in zip(other.state.memory.all_mut(), labels(case).all()) {
-        for (byte, _) in zip(space, labels).filter(|(_, &label)| label == SECRET) {
-            *byte = random.word() as u8;
-        }
-    }
-    other.state.log.iter_mut().for_each(|word| *word = !*word);
-    other
-}
-
 /// A case that `draw` makes and the same with other secret bytes, drawn until the two differ.
 fn memory_pair(programs: &mut Programs, draw: fn(&mut Programs) -> Case) -> [Case; 2] {
     loop {
         let one = draw(programs);
-        let other = with_other_secrets(&one, programs.random());
+        let state = with_other_secrets(&one.state, programs.random());
+        let other = Case { state, ..one.clone() };
         if one.state.memory != other.state.memory {
             return [one, other];
         }
     }
-}
-
-/// Whether two memories agree in each byte that is public.
-fn public_bytes_agree(one: &Spaces, other: &Spaces, labels: &Spaces) -> bool {
-    zip(labels.all(), zip(one.all(), other.all())).all(|(labels, (bytes, others))| {
-        zip(labels, zip(bytes, others))
-            .all(|(&label, (one, other))| label == SECRET || one == other)
-    })
-}
-
-/// The log words that a run wrote.
-fn written_log(state: &State, report: &[u64; 5]) -> Vec<u64> {
-    state.log[..report[3] as usize].to_vec()
 }
 
 #[test]
@@ -268,29 +240,20 @@ fn secret_bytes_do_not_show_with_other_wordsizes_than_1() {
 /// Runs a case and the same with other secret bytes, and fails if a secret byte shows, or if the plain
 /// run does otherwise. Gives back both as they were left, and the report.
 fn check_pair(before: &[Case; 2]) -> ([Case; 2], [u64; 5]) {
-    let [on_one, on_other] = before;
-    let [mut one, mut other] = before.clone();
-    let report = interpreter_report(Job::Run, &mut one);
-    let other_report = interpreter_report(Job::Run, &mut other);
-    assert_eq!(report, other_report, "the reports on\n{on_one}and on\n{on_other}");
-    let log = written_log(&one.state, &report);
-    let other_log = written_log(&other.state, &report);
-    assert_eq!(log, other_log, "the log words of\n{on_one}and of\n{on_other}");
-    assert!(labels(&one) == labels(&other), "other labels after\n{on_one}and\n{on_other}");
-    assert!(
-        public_bytes_agree(&one.state.memory, &other.state.memory, labels(&one)),
-        "other public bytes after\n{on_one}and\n{on_other}"
-    );
-    for (before, after) in zip(before, [&one, &other]) {
+    let mut after = before.clone();
+    let [report, other_report] = after.each_mut().map(|case| interpreter_report(Job::Run, case));
+    let [one, other] = &after;
+    assert_secrets_do_not_show(before, [(report, &one.state), (other_report, &other.state)]);
+    for (before, after) in zip(before, &after) {
         assert_plain_run_is_the_same(before, after, &report);
     }
-    ([one, other], report)
+    (after, report)
 }
 
 /// Fails unless the plain run does what the labelled run did, where that did not end with LEAK and
 /// did not refuse its labels.
 fn assert_plain_run_is_the_same(before: &Case, after: &Case, report: &[u64; 5]) {
-    if report[0] == LEAK || !labels_hold(&before.state.memory, labels(before)) {
+    if report[0] == LEAK || !labels_hold(&before.state.memory, labels(&before.state)) {
         return;
     }
     let mut plain = before.plain();
@@ -301,45 +264,9 @@ fn assert_plain_run_is_the_same(before: &Case, after: &Case, report: &[u64; 5]) 
     assert!(agrees, "other memory, plain and labelled, after\n{before}");
 }
 
-/// A run in parts.
-struct Parts {
-    /// The last part's report, with operations and log words summed.
-    report: [u64; 5],
-    state: State,
-    /// The budgets of the parts, added.
-    budget: u32,
-    /// How many parts ended by BUDGET.
-    stops: u64,
-}
-
-/// Runs a case with one budget after the other, each from where the one before it stopped, with the
-/// unused part of the log.
-fn run_in_parts(case: &Case, budgets: &[u32]) -> Parts {
-    let mut part = case.clone();
-    let mut sum = Parts { report: [0; 5], state: case.state.clone(), budget: 0, stops: 0 };
-    let mut log = Vec::new();
-    for &budget in budgets {
-        part.call.budget = budget;
-        let [ending, index, executed, log_words, value] = interpreter_report(Job::Run, &mut part);
-        log.extend(part.state.log.drain(..log_words as usize));
-        let [_, _, executed_before, log_words_before, _] = sum.report;
-        sum.report =
-            [ending, index, executed_before + executed, log_words_before + log_words, value];
-        sum.budget += budget;
-        if ending != BUDGET {
-            break;
-        }
-        sum.stops += 1;
-        part.call.start = index;
-    }
-    log.append(&mut part.state.log);
-    sum.state = State { log, ..part.state };
-    sum
-}
-
 /// Compares a run in parts with one run. Gives back whether it stopped and was resumed.
 fn check_resumed(case: &Case, budgets: &[u32]) -> bool {
-    let parts = run_in_parts(case, budgets);
+    let parts = run_in_parts(case, budgets, |part| interpreter_report(Job::Run, part));
     let mut whole = case.clone();
     whole.call.budget = parts.budget;
     let report = interpreter_report(Job::Run, &mut whole);

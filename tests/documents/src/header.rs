@@ -20,8 +20,9 @@ pub fn problems(repository: &Repository) -> Vec<String> {
     }
     let spaces = spaces.into_iter().map(|(name, number)| (name.to_lowercase(), number));
     for (name, number) in endings.into_iter().chain(spaces) {
-        if !has_words(text(DOCUMENT), &format!("{number} {name}")) {
-            problems.push(format!("{C_HEADER}: {DOCUMENT} has no '{number} {name}'"));
+        let words = format!("{number} {}", name.replace('_', " "));
+        if !has_words(text(DOCUMENT), &words) {
+            problems.push(format!("{C_HEADER}: {DOCUMENT} has no '{words}'"));
         }
     }
     let version = text(VERSION).trim();
@@ -63,8 +64,9 @@ mod tests {
     use super::*;
 
     const HEADER: &str = "#define UNDRELVOA_VERSION \"1.2.0\"\nenum undrelvoa_space {\n    UNDRELVOA_SPACE_RAM = 4\n};\n\
-                          enum undrelvoa_ending {\n    UNDRELVOA_EXIT = 1, /* 2 */\n    UNDRELVOA_LOG = 34\n};\n";
-    const REFERENCE: &str = "spaces: 4 ram.\n| 1 EXIT | 34 LOG |\n";
+                          enum undrelvoa_ending {\n    UNDRELVOA_EXIT = 1, /* 2 */\n    UNDRELVOA_LOG = 34,\n    \
+                          UNDRELVOA_TWO_WORDS = 35\n};\n";
+    const REFERENCE: &str = "spaces: 4 ram.\n| 1 EXIT | 34 LOG | 35 TWO WORDS |\n";
 
     fn problems_of(header: &str, reference: &str, version: &str) -> Vec<String> {
         problems(&Repository::of(&[
@@ -85,6 +87,9 @@ mod tests {
         let header = HEADER.replace("= 34", "= 35");
         let found = problems_of(&header, REFERENCE, "1.2.0\n");
         assert_eq!(found, ["include/undrelvoa.h: docs/REFERENCE.md has no '35 LOG'"]);
+        let header = HEADER.replace("= 35", "= 36");
+        let found = problems_of(&header, REFERENCE, "1.2.0\n");
+        assert_eq!(found, ["include/undrelvoa.h: docs/REFERENCE.md has no '36 TWO WORDS'"]);
         let found = problems_of(HEADER, &REFERENCE.replace("34", "134"), "1.2.0\n");
         assert_eq!(found, ["include/undrelvoa.h: docs/REFERENCE.md has no '34 LOG'"]);
     }

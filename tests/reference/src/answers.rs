@@ -8,6 +8,7 @@ use crate::fault;
 use crate::machine::State;
 use crate::opcodes::{Opcode, Operation, Sizes, ANY_ADDRESS_SIZE};
 use crate::run::{observed_run, Program};
+use crate::speculative::{speculative_run, Event, Window};
 use crate::varnode::{is_operand_size, show, Lengths, Varnode};
 use crate::verdict::{verdict, Settings};
 
@@ -132,7 +133,8 @@ pub fn verdict_answer(call: &VerdictCall, lent: LentWords) -> Result<[u64; 5], u
     Ok(verdict(&call.settings, &call.lengths, &call.list).numbers())
 }
 
-/// The report of a run, labelled if the state has labels, for a caller who lends so many words. Each operation executed is named to the observer. A refused call leaves the state as it is.
+/// The report of a run, labelled if the state has labels, for a caller who lends so many words. Each
+/// operation executed is named to the observer. A refused call leaves the state as it is.
 pub fn run_answer(
     call: &RunCall,
     state: &mut State,
@@ -141,6 +143,20 @@ pub fn run_answer(
 ) -> Result<[u64; 5], u64> {
     lent.check()?;
     Ok(observed_run(&call.program, call.start, call.budget, state, observer).numbers())
+}
+
+/// The report of a speculative run, for a caller who lends so many words. A refused call leaves state and
+/// journal as they are.
+pub fn speculative_answer(
+    call: &RunCall,
+    window: &mut Window,
+    state: &mut State,
+    lent: LentWords,
+    observer: impl FnMut(Event),
+) -> Result<[u64; 5], u64> {
+    lent.check()?;
+    let RunCall { program, start, budget } = call;
+    Ok(speculative_run(program, *start, *budget, window, state, observer).numbers())
 }
 
 /// The space, the offset and the bytes of the part that is shown, all 0 for an empty one, for a

@@ -1,8 +1,9 @@
 //! The numbers of the faults: what a call refuses, and what stops a run.
 
-/// A byte order that is neither 0 nor 1, or an address size or a wordsize that is not 1 to 8.
+/// A byte order that is neither 0 nor 1, an address size or a wordsize that is not 1 to 8, or a window of
+/// more than 64 operations.
 pub const SETTING: u64 = 10;
-/// A lent buffer that is too short to hold the result, or a list or a space of a wrong length.
+/// A lent buffer that is too short for the result or for a window, or a list or a space of a wrong length.
 pub const LENGTH: u64 = 11;
 /// A label that is neither 0 nor 1.
 pub const LABEL: u64 = 12;
@@ -28,3 +29,5 @@ pub const BOUNDS: u64 = 32;
 pub const ZERO: u64 = 33;
 /// A log word without room.
 pub const LOG: u64 = 34;
+/// A secret byte where only public ones may decide, on the way not taken.
+pub const LEAK_AHEAD: u64 = 35;

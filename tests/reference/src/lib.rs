@@ -15,5 +15,7 @@ pub mod machine;
 pub mod memory;
 pub mod opcodes;
 pub mod run;
+pub mod speculative;
 pub mod varnode;
+pub mod vector;
 pub mod verdict;

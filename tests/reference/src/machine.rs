@@ -27,6 +27,14 @@ pub enum Next {
     Exit(u64),
 }
 
+/// What an operation did.
+#[derive(Clone, Copy, Debug, PartialEq, Eq)]
+pub struct Executed {
+    pub next: Next,
+    /// The bytes that it wrote, if it wrote any.
+    pub written: Option<Varnode>,
+}
+
 /// A list while it runs.
 pub struct Machine<'a> {
     order: ByteOrder,
@@ -34,6 +42,7 @@ pub struct Machine<'a> {
     operations: &'a [[u64; WORDS_PER_OPERATION]],
     state: &'a mut State,
     log_words: usize,
+    mark: u64,
 }
 
 impl<'a> Machine<'a> {
@@ -44,7 +53,7 @@ impl<'a> Machine<'a> {
         operations: &'a [[u64; WORDS_PER_OPERATION]],
         state: &'a mut State,
     ) -> Machine<'a> {
-        Machine { order, wordsizes, operations, state, log_words: 0 }
+        Machine { order, wordsizes, operations, state, log_words: 0, mark: 0 }
     }
 
     /// How many operations the list has.
@@ -62,8 +71,28 @@ impl<'a> Machine<'a> {
         self.decode(index).operation.opcode
     }
 
+    /// What the machine reads and writes.
+    pub fn state(&mut self) -> &mut State {
+        self.state
+    }
+
+    /// Adds a number to each log word from now on.
+    pub fn mark_log_words(&mut self, mark: u64) {
+        self.mark = mark;
+    }
+
+    /// The way that the CBRANCH at an index does not take, if there is a CBRANCH.
+    pub fn other_way(&self, index: usize) -> Option<Next> {
+        let instruction = self.decode(index);
+        let is_cbranch = instruction.operation.opcode == Opcode::Cbranch;
+        is_cbranch.then(|| match self.is_taken(&instruction) {
+            true => Next::Index(index + 1),
+            false => instruction.destination(index),
+        })
+    }
+
     /// Executes the operation at an index, or names what stops it. A stopped one writes nothing.
-    pub fn execute(&mut self, index: usize) -> Result<Next, u64> {
+    pub fn execute(&mut self, index: usize) -> Result<Executed, u64> {
         let instruction = self.decode(index);
         if self.leaks(&instruction) {
             return Err(fault::LEAK);
@@ -81,9 +110,10 @@ impl<'a> Machine<'a> {
         // All that is read is read before anything is written.
         let write = self.write_of(&instruction);
         let next = self.next(&instruction, index);
+        let written = write.as_ref().map(|write| write.target);
         self.write_log(log_word);
         self.write_target(write);
-        Ok(next)
+        Ok(Executed { next, written })
     }
 
     fn decode(&self, index: usize) -> Instruction {
@@ -194,7 +224,7 @@ impl<'a> Machine<'a> {
 
     fn write_log(&mut self, log_word: Option<u64>) {
         if let Some(word) = log_word {
-            self.state.log[self.log_words] = word;
+            self.state.log[self.log_words] = word + self.mark;
             self.log_words += 1;
         }
     }

@@ -3,7 +3,7 @@
 use crate::bytes::ByteOrder;
 use crate::fault;
 use crate::list::WORDS_PER_OPERATION;
-use crate::machine::{Machine, Next, State};
+use crate::machine::{Executed, Machine, Next, State};
 use crate::memory::{Spaces, PUBLIC, SECRET};
 use crate::opcodes::Opcode;
 use crate::verdict::{lengths_hold, settings_hold, verdict, Report, Settings, END};
@@ -24,6 +24,14 @@ impl Program {
     /// How many whole operations the list has.
     pub fn count(&self) -> u64 {
         (self.list.len() / WORDS_PER_OPERATION) as u64
+    }
+
+    /// The machine of a program that is not refused.
+    pub(crate) fn machine<'a>(&'a self, state: &'a mut State) -> Machine<'a> {
+        let Settings { order, wordsizes, .. } = self.settings;
+        let order = ByteOrder::with_number(order).expect("the settings hold");
+        let (operations, _) = self.list.as_chunks::<WORDS_PER_OPERATION>();
+        Machine::new(order, wordsizes, operations, state)
     }
 }
 
@@ -48,11 +56,21 @@ pub fn observed_run(
     if let Some(report) = refusal(program, start, state) {
         return report;
     }
-    let Settings { order, wordsizes, .. } = program.settings;
-    let order = ByteOrder::with_number(order).expect("the settings hold");
-    let (operations, _) = program.list.as_chunks::<WORDS_PER_OPERATION>();
-    let mut machine = Machine::new(order, wordsizes, operations, state);
-    let mut index = start as usize;
+    run_machine(&mut program.machine(state), start as usize, budget, |machine, index| {
+        observer(machine.opcode(index));
+        Ok(())
+    })
+}
+
+/// Runs a machine from an index on. Each operation has `after` done after it, before it is counted;
+/// an ending that `after` gives ends the run at that operation.
+pub(crate) fn run_machine(
+    machine: &mut Machine,
+    start: usize,
+    budget: u32,
+    mut after: impl FnMut(&mut Machine, usize) -> Result<(), u64>,
+) -> Report {
+    let mut index = start;
     let mut executed = 0;
     let (ending, value) = loop {
         if index == machine.count() {
@@ -62,11 +80,13 @@ pub fn observed_run(
             break (BUDGET, 0);
         }
         let next = match machine.execute(index) {
-            Ok(next) => next,
+            Ok(Executed { next, .. }) => next,
             Err(ending) => break (ending, 0),
         };
+        if let Err(ending) = after(machine, index) {
+            break (ending, 0);
+        }
         executed += 1;
-        observer(machine.opcode(index));
         match next {
             Next::Index(target) => index = target,
             Next::Exit(destination) => break (EXIT, destination),
@@ -82,7 +102,7 @@ pub fn observed_run(
 }
 
 /// The refusals in their order: 10, 11, 12, 21 to 26, 27.
-fn refusal(program: &Program, start: u64, state: &State) -> Option<Report> {
+pub(crate) fn refusal(program: &Program, start: u64, state: &State) -> Option<Report> {
     let Program { settings, list } = program;
     let lengths = state.memory.lengths();
     if !settings_hold(settings) {
