@@ -354,8 +354,9 @@ uint64_t undrelvoa_labelled_step(const uint64_t *settings, size_t settings_len, 
  *
  * In a window, LEAK ends the run as UNDRELVOA_LEAK_AHEAD, and a full log ends it as UNDRELVOA_LOG. Both report
  * the CBRANCH that opened the window, not counted, with value 0; bytes and labels are those before it, and the
- * log words written until then stay, its own too. With any other ending the report, but for the number of log
- * words, the spaces, the labels and the words that are not marked are those of undrelvoa_labelled_run.
+ * log words written until then stay, its own too. With a window and a journal in range and any other ending than
+ * these two, the report, but for the number of log words, the spaces, the labels and the words that are not marked
+ * are those of undrelvoa_labelled_run.
  *
  * A window over UNDRELVOA_MAX_WINDOW is 10, and a journal of too few words 11. After a refusal the journal too
  * is as lent.

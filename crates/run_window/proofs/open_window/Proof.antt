@@ -56,6 +56,44 @@ mark-words-requires c κs =
     let entry = entry-of ran in
     may-mark (programOf (entry .args .settings) _) _ _ _ _ _ _ (entry .pre .2) _ _ _ _ (ran .run-saved .ensures .0) (entry .pre .0 .inRange)
 
+same-length : tie.Need-same-length
+same-length c =
+    let undone = undone-of (c .before .before .before) in
+    undone .undo .kept .0 ∙ ran-of undone .run-saved .kept .1 .1 .0
+
+same-length-2 : tie.Need-same-length-2
+same-length-2 c =
+    let undone = undone-of (c .before .before .before) in
+    undone .undo .kept .1 .0 ∙ ran-of undone .run-saved .kept .1 .1 .1 .0
+
+same-length-3 : tie.Need-same-length-3
+same-length-3 c =
+    let undone = undone-of (c .before .before .before) in
+    undone .undo .kept .1 .1 .0 ∙ ran-of undone .run-saved .kept .1 .1 .1 .1 .0
+
+same-length-4 : tie.Need-same-length-4
+same-length-4 c =
+    let undone = undone-of (c .before .before .before) in
+    undone .undo .kept .1 .1 .1 .0 ∙ ran-of undone .run-saved .kept .1 .1 .1 .1 .1 .0
+
+same-length-5 : tie.Need-same-length-5
+same-length-5 c =
+    let undone = undone-of (c .before .before .before) in
+    undone .undo .kept .1 .1 .1 .1 .0 ∙ ran-of undone .run-saved .kept .1 .1 .1 .1 .1 .1 .0
+
+same-length-6 : tie.Need-same-length-6
+same-length-6 c =
+    let undone = undone-of (c .before .before .before) in
+    undone .undo .kept .1 .1 .1 .1 .1 .0 ∙ ran-of undone .run-saved .kept .1 .1 .1 .1 .1 .1 .1 .0
+
+same-length-7 : tie.Need-same-length-7
+same-length-7 c =
+    let marked = c .before .before in
+    marked .mark-words .kept .0 ∙ ran-of (undone-of (marked .before)) .run-saved .kept .1 .1 .1 .1 .1 .1 .1 .1 .0
+
+same-length-8 : tie.Need-same-length-8
+same-length-8 c = ran-of (undone-of (c .before .before .before)) .run-saved .kept .1 .1 .1 .1 .1 .1 .1 .1 .1 .0
+
 returns : tie.Need-returns
 returns c =
     let marked = c .before .before in
@@ -75,12 +113,12 @@ open-window-spec =
     (λ c κs. search needs)
     undo-requires
     mark-words-requires
-    (λ c. search needs)
-    (λ c. search needs)
-    (λ c. search needs)
-    (λ c. search needs)
-    (λ c. search needs)
-    (λ c. search needs)
-    (λ c. search needs)
-    (λ c. search needs)
+    same-length
+    same-length-2
+    same-length-3
+    same-length-4
+    same-length-5
+    same-length-6
+    same-length-7
+    same-length-8
     returns)

@@ -55,6 +55,32 @@ clear-requires c κs =
     rw (ran .speculate-from .ensures .1 .sameLength)
     (accepted-ahead _ _ _ _ _ _ _ _ _ (past .before .before .speculative-refusal .ensures) (past .if1 .left) .4)
 
+same-length-7 : tie.Need-same-length-7
+same-length-7 c = ran-of (c .before .before .before) .speculate-from .kept .1 .1 .0
+
+same-length-8 : tie.Need-same-length-8
+same-length-8 c = ran-of (c .before .before .before) .speculate-from .kept .1 .1 .1 .0
+
+same-length-9 : tie.Need-same-length-9
+same-length-9 c = ran-of (c .before .before .before) .speculate-from .kept .1 .1 .1 .1 .0
+
+same-length-10 : tie.Need-same-length-10
+same-length-10 c = ran-of (c .before .before .before) .speculate-from .kept .1 .1 .1 .1 .1 .0
+
+same-length-11 : tie.Need-same-length-11
+same-length-11 c = ran-of (c .before .before .before) .speculate-from .kept .1 .1 .1 .1 .1 .1 .0
+
+same-length-12 : tie.Need-same-length-12
+same-length-12 c = ran-of (c .before .before .before) .speculate-from .kept .1 .1 .1 .1 .1 .1 .1 .0
+
+same-length-13 : tie.Need-same-length-13
+same-length-13 c = ran-of (c .before .before .before) .speculate-from .kept .1 .1 .1 .1 .1 .1 .1 .1 .0
+
+same-length-14 : tie.Need-same-length-14
+same-length-14 c =
+    let cleared = c .before .before in
+    cleared .clear .kept .0 ∙ ran-of (cleared .before) .speculate-from .kept .1 .1 .1 .1 .1 .1 .1 .1 .1 .0
+
 returns-2 : tie.Need-returns-2
 unfolding speculativeRun
 returns-2 c =
@@ -78,12 +104,12 @@ speculative-run-spec =
     returns
     speculate-from-requires
     clear-requires
-    (λ c. search needs)
-    (λ c. search needs)
-    (λ c. search needs)
-    (λ c. search needs)
-    (λ c. search needs)
-    (λ c. search needs)
-    (λ c. search needs)
-    (λ c. search needs)
+    same-length-7
+    same-length-8
+    same-length-9
+    same-length-10
+    same-length-11
+    same-length-12
+    same-length-13
+    same-length-14
     returns-2)
