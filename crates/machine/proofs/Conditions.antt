@@ -18,7 +18,7 @@ use Rattle.operation.specs.declared.layout.Settings.{Settings}
 use Rattle.operation.specs.declared.layout.Varnode.{Varnode}
 use Rattle.machine.specs.Program.{Program, bigEndian}
 use Rattle.machine.specs.Memory.{Memory, OfBytes, lengthsOf, spaceOf, withSpace, bytesAt, written, valueAt}
-use Rattle.operation.specs.Layout.{absent, wordsPerOperation, operationCount, wordAt, offsetAt, describedBy, varnodeAt}
+use Rattle.operation.specs.Layout.{absent, operationCount, wordAt, offsetAt, describedBy, varnodeAt}
 use Rattle.machine.specs.Effect.{Operation, operationAt, Kind, kindOf, moves, dropped, computed, anySecret, secret, sinks, tested, valuesOf, pointee, sources}
 use Rattle.machine.specs.Effect.{byteOffset, resolved, target, bytesWritten, labelsWritten}
 use Rattle.machine.specs.Run.{Stop, Decision, Position, Ended, Stepped, indexOf, goTo, logWord, logging, access, checked, decided, advanced, ended, endingOf, resolvedValue}
@@ -30,9 +30,10 @@ use Rattle.operation.specs.Rules.{accesses, namesSpace, isDestination, breaksPl
 use Rattle.operation.proofs.Targets.{wrapping}
 use lib.IntN.{pos}
 use Rattle.validation.specs.WellFormed.{WellFormed}
-use Rattle.validation.specs.Verdict.{mostOperations, mostBytes, lengthsInRange, verdict}
+use Rattle.validation.specs.Verdict.{lengthsInRange, verdict}
 use Rattle.validation.proofs.WellFormed.{verdict-zero}
 use Rattle.operation.specs.declared.layout.Lengths.{Lengths}
+use Rattle.machine.proofs.Ranges.{in-range}
 use Rattle.machine.proofs.Budget.{Repeats, run-repeats, Ends, stepped-ends}
 use Rattle.machine.proofs.Plain.{none-secret}
 use Rattle.machine.proofs.Moves.{moved-whole, moved-part, moved-both}
@@ -688,13 +689,7 @@ module _ (settings : Settings) (addressSize : ℕ) (list : List ℕ) (i : ℕ) (
 -- ---- the run
 
 pub few-operations : (lengths : Lengths) (list : List ℕ) → lengthsInRange lengths list ≡ true → operationCount list < 2 ^ 64
-unfolding lengthsInRange
-few-operations lengths list e =
-    let a = both _ (leb (lengths .ram) mostBytes) e in
-    let c = both _ (leb (lengths .register) mostBytes) (a .0) in
-    let d = both _ (leb (lengths .unique) mostBytes) (c .0) in
-    let n : operationCount list ≤ mostOperations = leb-true (operationCount list) mostOperations (both (eqb (length list % wordsPerOperation) 0) _ (d .0) .1) in
-    omega arith
+few-operations lengths list e = omega (arith, in-range lengths list e .0)
 
 -- at n, END; else BUDGET, or the operation
 module _ {program : Program} {S : Position → Memory → Memory → Stepped} {R : ℕ → Position → Memory → Memory → Ended} (u : Repeats program S R)

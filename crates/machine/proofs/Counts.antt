@@ -68,12 +68,12 @@ abbrev goesOn : Stepped → ℕ
 goesOn (Stepped.halted r) = 0
 goesOn (Stepped.going at labels m) = 1
 
-pub stopped-operation : {at : Position} {P : Ended → Type 0} {a : Stepped} → Counts at P a → (r : Ended) → a ≡ Stepped.halted r → 31 ≤ r .ending → P r
+-- one that ended, but not by EXIT, was stopped
+pub stopped-operation : {at : Position} {P : Ended → Type 0} {a : Stepped} → Counts at P a → (r : Ended) → a ≡ Stepped.halted r → (r .ending ≡ 1 → ⊥) → P r
 stopped-operation {P} (stays s c p) r e h = subst P (cc e) p
 stopped-operation (exited {r = q} l c) r e h =
     let w : q ≡ r = cc e in
-    let v : q .ending ≡ r .ending = ap (λ (x : Ended). x .ending) w in
-    absurd (omega (arith, l, v, h))
+    absurd (h (sym (ap (λ (x : Ended). x .ending) w) ∙ l))
 stopped-operation (goes x) r e h = absurd (let z : _≡_ {A = ℕ} 1 0 = ap goesOn e in omega (arith, z))
 
 pub counted-operation : {at : Position} {P : Ended → Type 0} {a : Stepped} → Counts at P a → (next : Position) (ls n : Memory)

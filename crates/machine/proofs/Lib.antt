@@ -1,4 +1,5 @@
 pub mod Cases
+pub mod Ranges
 pub mod Refusals
 pub mod Pointwise
 pub mod Secrecy

@@ -1,13 +1,14 @@
 -- Stops, counts and log words.
 use Prim.Native.Nat.{ℕ, _-_, zero, suc, _+_, _≤_}
 use native.Mathlib.Omega.{arith}
-use mathlib.Core.Path.{_≡_, refl, ap, _∙_}
-use mathlib.Core.Bool.{true}
+use mathlib.Core.Path.{_≡_, refl}
+use mathlib.Core.Bool.{Bool, true, false, cond}
 use mathlib.Core.List.{List}
 use lib.ListN.{length, drop, length-append, length-drop}
-use lib.Dec.{eqb}
+use lib.Dec.{eqb, ltb}
 use Rattle.operation.specs.declared.layout.Settings.{Settings}
 use Rattle.operation.specs.declared.report.Report.{Report}
+use Rattle.operation.specs.Layout.{operationCount}
 use Rattle.machine.specs.Program.{Program, programOf}
 use Rattle.machine.specs.Memory.{Memory, lengthsOf}
 use Rattle.machine.specs.Run.{Position, Ended, Stepped, ended, stepped, continued, run}
@@ -15,8 +16,9 @@ use Rattle.machine.specs.Calls.{Outcome, labelledOutcome, sameLengths, l
 use Rattle.machine.specs.Limits.{Unchanged, Limited, afterOperations, stateOf, Limits}
 use Rattle.machine.proofs.Cases.{either}
 use Rattle.machine.proofs.Refusals.{Refuses, refusal-refuses, refusal-report, not-stopped}
-use Rattle.machine.proofs.Counts.{Counts, stays, exited, goes, Stays, stepped-counts, stopped-operation, not-refused, Run}
-use Rattle.machine.proofs.Runs.{run-laws, started-kept}
+use Rattle.machine.proofs.Budget.{Repeats, run-repeats}
+use Rattle.machine.proofs.Counts.{not-exit, Counts, stays, exited, goes, stepped-counts, stopped-operation, not-refused, Run}
+use Rattle.machine.proofs.Runs.{Steps, repeated-laws, stepped-laws, run-laws, started-kept}
 
 -- ---- the calls
 
@@ -63,38 +65,59 @@ module _ (settings : Settings) (list : List ℕ) (start budget : ℕ) (log : Lis
 
 -- ---- as many single operations as were counted
 
-after-next : (program : Program) (k : ℕ) (at : Position) (labels m : Memory) {a : Stepped} → stepped program at labels m ≡ a
-    → afterOperations program (suc k) (Stepped.going at labels m) ≡ afterOperations program k a
-unfolding afterOperations
-after-next program k at labels m s = rw s
+-- Q relates a run that ended to the state after as many single operations as it counts
+module _ {program : Program} {P : Position → Memory → Memory → Ended → Type 0} {S : Position → Memory → Memory → Stepped} {R : ℕ → Position → Memory → Memory → Ended}
+    (steps : Steps program P S) (u : Repeats program S R) (Q : Ended → Stepped → Type 0)
+    (spent : (at : Position) (labels m : Memory) → Q (ended 2 0 at labels m) (Stepped.going at labels m))
+    (exits : (r : Ended) → r .ending ≡ 1 → Q r (Stepped.halted r))
+    (stops : (at : Position) (labels m : Memory) (r : Ended) → S at labels m ≡ Stepped.halted r → (r .ending ≡ 1 → ⊥) → r .position .executed ≡ at .executed
+    → Q r (Stepped.going at labels m)) where
+  abbrev After : Position → (labels m : Memory) → Ended → Type 0
+  After at labels m r = Q r (afterOperations S (r .position .executed - at .executed) (Stepped.going at labels m))
 
-continued-after : (program : Program) (budget : ℕ) (f : Position → Memory → Memory → Ended)
-    → ((at : Position) (labels m : Memory) → Run (at .executed) budget (f at labels m))
-    → ((at : Position) (labels m : Memory)
-    → stateOf (afterOperations program (f at labels m .position .executed - at .executed) (Stepped.going at labels m))
-    ≡ (f at labels m .position, f at labels m .labels, f at labels m .memory))
-    → (at : Position) (labels m : Memory) {a : Stepped} → stepped program at labels m ≡ a → Counts at (Stays at labels m) a
-    → stateOf (afterOperations program (continued f a .position .executed - at .executed) (Stepped.going at labels m))
-    ≡ (continued f a .position, continued f a .labels, continued f a .memory)
-unfolding continued afterOperations stateOf
-continued-after program budget f h q at labels m s (stays {r} e c (p, l, x, v)) =
-    let z : r .position .executed - at .executed ≡ 0 = omega (arith, c) in
-    rw (z, p, l, x)
-continued-after program budget f h q at labels m s (exited {r} e c) =
-    let z : r .position .executed - at .executed ≡ 1 = omega (arith, c) in
-    rw (z, s)
-continued-after program budget f h q at labels m s (goes {next} {ls} {n} e) =
-    let z : f next ls n .position .executed - at .executed ≡ suc (f next ls n .position .executed - next .executed) = omega (arith, e, h next ls n .before) in
-    ap stateOf (ap (λ (k : ℕ). afterOperations program k (Stepped.going at labels m)) z ∙ after-next program (f next ls n .position .executed - next .executed) at labels m s) ∙ q next ls n
+  after-next : (k : ℕ) (at : Position) (labels m : Memory) {a : Stepped} → S at labels m ≡ a
+      → afterOperations S (suc k) (Stepped.going at labels m) ≡ afterOperations S k a
+  unfolding afterOperations
+  after-next k at labels m s = rw s
 
-run-after : (program : Program) (budget : ℕ) (at : Position) (labels m : Memory)
-    → stateOf (afterOperations program (run program budget at labels m .position .executed - at .executed) (Stepped.going at labels m))
-    ≡ (run program budget at labels m .position, run program budget at labels m .labels, run program budget at labels m .memory)
-unfolding run ended afterOperations stateOf
-run-after program zero at labels m = let z : at .executed - at .executed ≡ 0 = omega arith in rw z
-run-after program (suc budget) at labels m =
-    continued-after program budget _ (λ at′ l m′. run-laws program .counts budget at′ l m′) (λ at′ l m′. run-after program budget at′ l m′) at labels m refl
-    (stepped-counts program at labels m)
+  continued-after : (budget : ℕ) → ((at : Position) (labels m : Memory) → After at labels m (R budget at labels m))
+      → (at : Position) (labels m : Memory) {a : Stepped} → S at labels m ≡ a → Counts at (P at labels m) a → After at labels m (continued (R budget) a)
+  unfolding continued afterOperations
+  continued-after budget q at labels m s (stays {r} e c p) =
+      let z : r .position .executed - at .executed ≡ 0 = omega (arith, c) in
+      rw z (stops at labels m r s (not-exit e) c)
+  continued-after budget q at labels m s (exited {r} e c) =
+      let z : r .position .executed - at .executed ≡ 1 = omega (arith, c) in
+      rw (z, s) (exits r e)
+  continued-after budget q at labels m s (goes {next} {ls} {n} e) =
+      let r = R budget next ls n in
+      let before : next .executed ≤ r .position .executed = repeated-laws steps u .counts budget next ls n .before in
+      let z : r .position .executed - at .executed ≡ suc (r .position .executed - next .executed) = omega (arith, e, before) in
+      rw (z, after-next (r .position .executed - next .executed) at labels m s) (q next ls n)
+
+  pub run-after : (budget : ℕ) (at : Position) (labels m : Memory) → After at labels m (R budget at labels m)
+  unfolding ended afterOperations
+  run-after zero at labels m =
+      let z : at .executed - at .executed ≡ 0 = omega arith in
+      rw (u .none at labels m, z) (by (ltb (at .index) (operationCount (program .list))) refl)
+    where
+      by : (t : Bool) → ltb (at .index) (operationCount (program .list)) ≡ t → Q (ended (cond t 2 0) 0 at labels m) (Stepped.going at labels m)
+      by true t = spent at labels m
+      by false t = stops at labels m (ended 0 0 at labels m) (steps .ends at labels m t) (λ e. omega (arith, e)) refl
+  run-after (suc budget) at labels m =
+      rw (u .next budget at labels m) (continued-after budget (λ at′ l m′. run-after budget at′ l m′) at labels m refl (steps .counts at labels m))
+
+stopped-state : (program : Program) (at : Position) (labels m : Memory) (r : Ended) → stepped program at labels m ≡ Stepped.halted r → (r .ending ≡ 1 → ⊥)
+    → (r .position ≡ at) × (r .labels ≡ labels) × (r .memory ≡ m)
+stopped-state program at labels m r e n = let s = stopped-operation (stepped-counts program at labels m) r e n in (s .0, s .1, s .2)
+
+counted : (program : Program) (budget : ℕ) (at : Position) (labels m : Memory)
+    → (let r = run program budget at labels m in
+    stateOf (afterOperations (stepped program) (r .position .executed - at .executed) (Stepped.going at labels m)) ≡ (r .position, r .labels, r .memory))
+unfolding stateOf ended
+counted program =
+    run-after (stepped-laws program) (run-repeats program) (λ r s. stateOf s ≡ (r .position, r .labels, r .memory)) (λ at labels m. refl) (λ r e. refl)
+    (λ at labels m r s n c. let (p, l, x) = stopped-state program at labels m r s n in rw (p, l, x) refl)
 
 pub limits : Limits
 unfolding labelledRun plainRun
@@ -107,6 +130,6 @@ limits = record {
       called-limited settings list start budget log labels m _ (refusal-refuses settings (lengthsOf m) list start (sameLengths (lengthsOf labels) (lengthsOf m)) (labelsInRange labels));
   plainLimited = λ settings list start budget log m.
       called-limited settings list start budget log unlabelled m _ (refusal-refuses settings (lengthsOf m) list start true true);
-  countedOperations = run-after;
-  stoppedOperation = λ program at labels m r e h. let s = stopped-operation (stepped-counts program at labels m) r e h in (s .0, s .1, s .2);
+  countedOperations = counted;
+  stoppedOperation = λ program at labels m r e h. stopped-state program at labels m r e (λ z. omega (arith, h, z));
 }

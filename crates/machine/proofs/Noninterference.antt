@@ -3,7 +3,7 @@ use Prim.Native.Nat.{ℕ}
 use mathlib.Core.Path.{_≡_, refl, sym, ap, _∙_}
 use mathlib.Core.Bool.{Bool, true, false, cond, _&&_}
 use mathlib.Core.List.{List}
-use borrow.Author.Tests.{eqb-true, eqb-false}
+use borrow.Author.Tests.{eqb-true}
 use lib.ListN.{length, take, drop}
 use lib.Seq.{take-append-seam}
 use lib.Dec.{eqb}
@@ -17,7 +17,7 @@ use Rattle.machine.specs.Run.{Position, Ended, run}
 use Rattle.machine.specs.Calls.{Outcome, sameLengths, labelsInRange, refusal, logAfter, outcomeOf, starting, called, labelledRun, unlabelled, plainRun}
 use Rattle.machine.specs.Noninterference.{LowEquivalent, Indistinguishable, Labelled, PlainAlike, Noninterference}
 use Rattle.machine.proofs.Pointwise.{Spaces, each-from, each-at, spaces-space, spaces-lengths}
-use Rattle.machine.proofs.Refusals.{refusal-refuses, refusal-report, unfitting}
+use Rattle.machine.proofs.Refusals.{refusal-refuses, refusal-report, accepted}
 use Rattle.machine.proofs.Secrecy.{Public, SameView, run-view}
 use Rattle.machine.proofs.Plain.{SameRun, run-same}
 
@@ -78,14 +78,7 @@ module _ (settings : Settings) (list : List ℕ) (start budget : ℕ) where
   labelled-view log log′ e labels m n l =
       rw (← (l .lengths))
       (called-view log log′ e labels m n _ (refusal-report (refusal-refuses settings (lengthsOf m) list start _ _) .1) l
-      (fits (sameLengths (lengthsOf labels) (lengthsOf m)) refl))
-    where
-      fits : (t : Bool) → sameLengths (lengthsOf labels) (lengthsOf m) ≡ t
-          → eqb (refusal settings (lengthsOf m) list start t (labelsInRange labels) .ending) 0 ≡ true → Spaces Public labels m n
-      fits true s z = spaces-from s l
-      fits false s z =
-          let x : ℕ = refusal settings (lengthsOf m) list start false (labelsInRange labels) .ending in
-          absurd (eqb-false x 0 (unfitting settings (lengthsOf m) list start (labelsInRange labels)) (eqb-true x 0 z))
+      (λ z. spaces-from (accepted settings (lengthsOf m) list start (sameLengths (lengthsOf labels) (lengthsOf m)) (labelsInRange labels) z .labelsFit) l))
 
 -- ---- the plain run
 

@@ -38,24 +38,27 @@ lent-word words log k h =
     ∙ getD-drop (length words) log (k - length words) 0
     ∙ ap (λ (n : ℕ). getD log n 0) (sym e)
 
+pub outcome-answers : (log : List ℕ) (r : Ended) → Answers log r (outcomeOf log r)
+unfolding outcomeOf logAfter
+outcome-answers log r =
+    let words : List ℕ = r .position .log in
+    record {
+      ending = refl;
+      index = refl;
+      executed = refl;
+      logged = refl;
+      value = refl;
+      memory = refl;
+      labels = refl;
+      words = λ k h. List·getD-append words (drop (length words) log) 0 k h;
+      lent = λ k h. lent-word words log k h;
+    }
+
 module _ (settings : Settings) (list : List ℕ) (start budget : ℕ) (log : List ℕ) (labels m : Memory) (refused : Report) where
   called-answers : refused .ending ≡ 0
       → Answers log (run (programOf settings list) budget (starting start (length log)) labels m) (called settings list start budget log labels m refused)
-  unfolding called outcomeOf logAfter
-  called-answers e =
-      let words : List ℕ = run (programOf settings list) budget (starting start (length log)) labels m .position .log in
-      rw (eq-eqb (refused .ending) 0 e)
-      (record {
-        ending = refl;
-        index = refl;
-        executed = refl;
-        logged = refl;
-        value = refl;
-        memory = refl;
-        labels = refl;
-        words = λ k h. List·getD-append words (drop (length words) log) 0 k h;
-        lent = λ k h. lent-word words log k h;
-      })
+  unfolding called
+  called-answers e = rw (eq-eqb (refused .ending) 0 e) (outcome-answers log _)
 
   called-refused : (refused .ending ≡ 0 → ⊥) → called settings list start budget log labels m refused ≡ labelledOutcome refused m labels log
   unfolding called

@@ -4,8 +4,9 @@ use native.Mathlib.Omega.{arith}
 use mathlib.Core.Path.{_≡_, refl}
 use mathlib.Core.Bool.{Bool, true, false, cond, not, _&&_}
 use mathlib.Core.List.{List}
-use borrow.Author.Tests.{eqb-true, eqb-false, le-ltb}
+use borrow.Author.Tests.{eqb-true, eqb-false, eq-eqb, le-ltb, ltb-false, not-true, not-false}
 use lib.Dec.{eqb, ltb}
+use Rattle.integer.proofs.Booleans.{both}
 use Rattle.operation.specs.declared.layout.Settings.{Settings}
 use Rattle.operation.specs.declared.layout.Lengths.{Lengths}
 use Rattle.operation.specs.declared.report.Report.{Report}
@@ -43,82 +44,77 @@ pub found-known : (a : ℕ) (lengths : Lengths) (list : List ℕ) → Known 21 2
 unfolding malformed
 found-known a lengths list = first-known _ (rule-known a lengths list) (operationCount list) 0
 
--- a report of a call in which nothing ran: its ending is 0 or a refusal's, 10 to 27
+-- a report of a call in which nothing ran: its ending is 0 or a refusal's, 10 to 12 or 21 to 27
 pub data Refuses : Report → Type 0 where
-  refuses : (ending index : ℕ) → Known 10 27 ending → Refuses (refusalReport ending index)
+  early : (ending index : ℕ) → Known 10 12 ending → Refuses (refusalReport ending index)
+  late : (ending index : ℕ) → Known 21 27 ending → Refuses (refusalReport ending index)
 
-wider : {n : ℕ} → Known 21 26 n → Known 10 27 n
+wider : {n : ℕ} → Known 21 26 n → Known 21 27 n
 wider none = none
-wider (known n l h) = known n (omega arith) (omega arith)
+wider (known n l h) = known n l (omega arith)
 
 pub refusal-refuses : (settings : Settings) (lengths : Lengths) (list : List ℕ) (start : ℕ) (fitting valid : Bool)
     → Refuses (refusal settings lengths list start fitting valid)
 unfolding refusal
 refusal-refuses settings lengths list start fitting valid =
     let found = malformed (settings .«address_size») lengths list in
-    either Refuses (not (settingsInRange settings)) _ _ (refuses 10 0 (known 10 (omega arith) (omega arith)))
-    (either Refuses (not (lengthsInRange lengths list && fitting)) _ _ (refuses 11 0 (known 11 (omega arith) (omega arith)))
-    (either Refuses (not valid) _ _ (refuses 12 0 (known 12 (omega arith) (omega arith)))
-    (either Refuses (not (eqb (found .rule) 0)) _ _ (refuses (found .rule) (found .index) (wider (found-known (settings .«address_size») lengths list)))
-    (either Refuses (ltb (operationCount list) start) _ _ (refuses 27 0 (known 27 (omega arith) (omega arith))) (refuses 0 0 none)))))
+    either Refuses (not (settingsInRange settings)) _ _ (early 10 0 (known 10 (omega arith) (omega arith)))
+    (either Refuses (not (lengthsInRange lengths list && fitting)) _ _ (early 11 0 (known 11 (omega arith) (omega arith)))
+    (either Refuses (not valid) _ _ (early 12 0 (known 12 (omega arith) (omega arith)))
+    (either Refuses (not (eqb (found .rule) 0)) _ _ (late (found .rule) (found .index) (wider (found-known (settings .«address_size») lengths list)))
+    (either Refuses (ltb (operationCount list) start) _ _ (late 27 0 (known 27 (omega arith) (omega arith))) (late 0 0 none)))))
 
 pub refusal-report : {r : Report} → Refuses r → (r .executed ≡ 0) × (r .logged ≡ 0) × (r .value ≡ 0)
 unfolding refusalReport
-refusal-report (refuses e i h) = (refl, refl, refl)
+refusal-report (early e i h) = (refl, refl, refl)
+refusal-report (late e i h) = (refl, refl, refl)
 
 pub not-stopped : {r : Report} → Refuses r → r .ending ≡ 2 → ⊥
 unfolding refusalReport
-not-stopped (refuses e i none) z = omega (arith, z)
-not-stopped (refuses e i (known n l h)) z = omega (arith, l, z)
+not-stopped (early e i none) z = omega (arith, z)
+not-stopped (early e i (known n l h)) z = omega (arith, l, z)
+not-stopped (late e i none) z = omega (arith, z)
+not-stopped (late e i (known n l h)) z = omega (arith, l, z)
 
--- ---- what is not refused at one start is not refused at another within the list
+-- ---- what a run that is not refused may rely on
 
-pub restarted : (settings : Settings) (lengths : Lengths) (list : List ℕ) (start again : ℕ) (fitting valid : Bool)
-    → eqb (refusal settings lengths list start fitting valid .ending) 0 ≡ true → again < operationCount list
-    → refusal settings lengths list again fitting true ≡ refusalReport 0 0
-unfolding refusal refusalReport
-restarted settings lengths list start again fitting valid e h =
-    by (settingsInRange settings) (lengthsInRange lengths list && fitting) valid (eqb (found .rule) 0) refl (ltb (operationCount list) start) e
-  where
-    found : Malformed
-    found = malformed (settings .«address_size») lengths list
+pub record Accepted (settings : Settings) (lengths : Lengths) (list : List ℕ) (start : ℕ) (fitting valid : Bool) : Type 0 where
+  pub settingsRight : settingsInRange settings ≡ true
+  pub lengthsRight : lengthsInRange lengths list ≡ true
+  pub labelsFit : fitting ≡ true
+  pub labelsRight : valid ≡ true
+  pub wellFormed : malformed (settings .«address_size») lengths list .rule ≡ 0
+  pub startInside : start ≤ operationCount list
 
-    refused : (s l v r x : Bool) → Report
-    refused s l v r x =
-        cond (not s) (refusalReport 10 0) (cond (not l) (refusalReport 11 0) (cond (not v) (refusalReport 12 0)
-        (cond (not r) (refusalReport (found .rule) (found .index)) (cond x (refusalReport 27 0) (refusalReport 0 0)))))
+-- a refusal that was not called for, and the refusals after it
+not-called-for : (t : Bool) (n i : ℕ) (rest : Report) → (t ≡ true → n ≡ 0 → ⊥) → cond t (refusalReport n i) rest .ending ≡ 0 → (t ≡ false) × (rest .ending ≡ 0)
+unfolding refusalReport
+not-called-for true n i rest h e = absurd (h refl e)
+not-called-for false n i rest h e = (refl, e)
 
-    within : ltb (operationCount list) again ≡ false
-    within = le-ltb (operationCount list) again (omega arith)
+pub accepted : (settings : Settings) (lengths : Lengths) (list : List ℕ) (start : ℕ) (fitting valid : Bool)
+    → eqb (refusal settings lengths list start fitting valid .ending) 0 ≡ true → Accepted settings lengths list start fitting valid
+unfolding refusal
+accepted settings lengths list start fitting valid e =
+    let found = malformed (settings .«address_size») lengths list in
+    let t1 = not-called-for (not (settingsInRange settings)) 10 0 _ (λ h z. omega (arith, z)) (eqb-true _ 0 e) in
+    let t2 = not-called-for (not (lengthsInRange lengths list && fitting)) 11 0 _ (λ h z. omega (arith, z)) (t1 .1) in
+    let t3 = not-called-for (not valid) 12 0 _ (λ h z. omega (arith, z)) (t2 .1) in
+    let t4 = not-called-for (not (eqb (found .rule) 0)) (found .rule) (found .index) _ (λ h. eqb-false (found .rule) 0 (not-true _ h)) (t3 .1) in
+    let t5 = not-called-for (ltb (operationCount list) start) 27 0 (refusalReport 0 0) (λ h z. omega (arith, z)) (t4 .1) in
+    let l = both (lengthsInRange lengths list) fitting (not-false _ (t2 .0)) in
+    record {
+      settingsRight = not-false _ (t1 .0);
+      lengthsRight = l .0;
+      labelsFit = l .1;
+      labelsRight = not-false valid (t3 .0);
+      wellFormed = eqb-true (found .rule) 0 (not-false _ (t4 .0));
+      startInside = ltb-false (operationCount list) start (t5 .0);
+    }
 
-    by : (s l v r : Bool) → eqb (found .rule) 0 ≡ r → (x : Bool) → eqb (refused s l v r x .ending) 0 ≡ true
-        → refused s l true r (ltb (operationCount list) again) ≡ refusalReport 0 0
-    by true true true true k x z = rw within
-    by true true true false k x z = absurd (eqb-false (found .rule) 0 k (eqb-true (found .rule) 0 z))
-    by true true false r k x z = absurd (let w : _≡_ {A = ℕ} 12 0 = eqb-true 12 0 z in omega (arith, w))
-    by true false v r k x z = absurd (let w : _≡_ {A = ℕ} 11 0 = eqb-true 11 0 z in omega (arith, w))
-    by false l v r k x z = absurd (let w : _≡_ {A = ℕ} 10 0 = eqb-true 10 0 z in omega (arith, w))
-
--- labels that do not fit the memory are refused
-pub unfitting : (settings : Settings) (lengths : Lengths) (list : List ℕ) (start : ℕ) (valid : Bool)
-    → eqb (refusal settings lengths list start false valid .ending) 0 ≡ false
-unfolding refusal refusalReport
-unfitting settings lengths list start valid = by (settingsInRange settings) (lengthsInRange lengths list) _
-  where
-    by : (s l : Bool) (rest : Report) → eqb (cond (not s) (refusalReport 10 0) (cond (not (l && false)) (refusalReport 11 0) rest) .ending) 0 ≡ false
-    by true true rest = refl
-    by true false rest = refl
-    by false l rest = refl
-
--- labels of a run that is not refused are 0 or 1
-pub accepted-labels : (settings : Settings) (lengths : Lengths) (list : List ℕ) (start : ℕ) (fitting valid : Bool)
-    → eqb (refusal settings lengths list start fitting valid .ending) 0 ≡ true → valid ≡ true
-unfolding refusal refusalReport
-accepted-labels settings lengths list start fitting valid = by (settingsInRange settings) (lengthsInRange lengths list && fitting) valid _
-  where
-    by : (s l v : Bool) (rest : Report)
-        → eqb (cond (not s) (refusalReport 10 0) (cond (not l) (refusalReport 11 0) (cond (not v) (refusalReport 12 0) rest)) .ending) 0 ≡ true → v ≡ true
-    by true true true rest z = refl
-    by true true false rest z = absurd (let w : _≡_ {A = ℕ} 12 0 = eqb-true 12 0 z in omega (arith, w))
-    by true false v rest z = absurd (let w : _≡_ {A = ℕ} 11 0 = eqb-true 11 0 z in omega (arith, w))
-    by false l v rest z = absurd (let w : _≡_ {A = ℕ} 10 0 = eqb-true 10 0 z in omega (arith, w))
+-- so it is not refused at another start within the list
+pub restarted : {settings : Settings} {lengths : Lengths} {list : List ℕ} {start : ℕ} {fitting valid : Bool} → Accepted settings lengths list start fitting valid
+    → (again : ℕ) → again < operationCount list → refusal settings lengths list again fitting true ≡ refusalReport 0 0
+unfolding refusal
+restarted {list} a again h =
+    rw (a .settingsRight, a .lengthsRight, a .labelsFit, eq-eqb _ 0 (a .wellFormed), le-ltb (operationCount list) again (omega (arith, h))) refl

@@ -17,7 +17,7 @@ use Rattle.machine.specs.Run.{Position, Ended, run, ended}
 use Rattle.machine.specs.Calls.{Outcome, sameLengths, labelsInRange, refusal, logAfter, outcomeOf, starting, called, labelledRun, unlabelled, plainRun}
 use Rattle.machine.specs.Resume.{Summed, unused, PlainResumes, LabelledResumes}
 use Rattle.machine.proofs.Budget.{later, laterEnded, fresh}
-use Rattle.machine.proofs.Refusals.{refusal-refuses, not-stopped, restarted, accepted-labels}
+use Rattle.machine.proofs.Refusals.{refusal-refuses, not-stopped, accepted, restarted}
 use Rattle.machine.proofs.Runs.{Runs, run-laws, resumed, started-kept}
 
 -- ---- the log
@@ -104,10 +104,9 @@ labelled-resumes settings list start b c log labels m = by (eqb (refused .ending
     by true t e =
         let r = run (programOf settings list) b (starting start (length log)) labels m in
         let i = run-laws (programOf settings list) .index b (starting start (length log)) labels m e in
-        let again = restarted settings (lengthsOf m) list start (r .position .index) (sameLengths (lengthsOf labels) (lengthsOf m)) (labelsInRange labels) t i in
+        let a = accepted settings (lengthsOf m) list start (sameLengths (lengthsOf labels) (lengthsOf m)) (labelsInRange labels) t in
         let k = started-kept (run-laws (programOf settings list)) start b log labels m in
-        let valid = accepted-labels settings (lengthsOf m) list start (sameLengths (lengthsOf labels) (lengthsOf m)) (labelsInRange labels) t in
-        rw (k .memory, k .lengths, k .values valid, again) (resumed-run settings list start b c log labels m e)
+        rw (k .memory, k .lengths, k .values (a .labelsRight), restarted a (r .position .index) i) (resumed-run settings list start b c log labels m e)
     by false t e = absurd (not-stopped (refusal-refuses settings (lengthsOf m) list start (sameLengths (lengthsOf labels) (lengthsOf m)) (labelsInRange labels)) e)
 
 no-length : (l : List ℕ) → length l ≡ 0 → l ≡ []
@@ -144,7 +143,7 @@ plain-resumes settings list start b c log m = by (eqb (refused .ending) 0) refl
     by true t e =
         let r = run (programOf settings list) b (starting start (length log)) unlabelled m in
         let i = run-laws (programOf settings list) .index b (starting start (length log)) unlabelled m e in
-        let again = restarted settings (lengthsOf m) list start (r .position .index) true true t i in
+        let again = restarted (accepted settings (lengthsOf m) list start true true t) (r .position .index) i in
         let k = started-kept (run-laws (programOf settings list)) start b log unlabelled m in
         let s = resumed-run settings list start b c log unlabelled m e in
         rw (k .memory, again)

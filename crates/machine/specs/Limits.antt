@@ -26,11 +26,11 @@ pub record Limited (budget : ℕ) (log : List ℕ) (o : Outcome) : Type 0 where
   pub logged : o .report .logged ≤ length log
   pub sameLength : length (o .log) ≡ length log
 
--- The state after k single operations, each from where the one before it went on.
-unfoldable pub afterOperations : Program → ℕ → Stepped → Stepped
-afterOperations program zero s = s
-afterOperations program (suc k) (Stepped.halted r) = Stepped.halted r
-afterOperations program (suc k) (Stepped.going at labels m) = afterOperations program k (stepped program at labels m)
+-- The state after k single operations, each from where the one before it went on; `one` is what an operation does.
+unfoldable pub afterOperations : (one : Position → Memory → Memory → Stepped) → ℕ → Stepped → Stepped
+afterOperations one zero s = s
+afterOperations one (suc k) (Stepped.halted r) = Stepped.halted r
+afterOperations one (suc k) (Stepped.going at labels m) = afterOperations one k (one at labels m)
 
 -- Position, labels and memory, whether the run ended or goes on.
 unfoldable pub stateOf : Stepped → Position × Memory × Memory
@@ -57,4 +57,4 @@ pub record Limits : Type 0 where
   -- The state after a run is that after as many single operations as it executed.
   pub countedOperations : (program : Program) (budget : ℕ) (at : Position) (labels m : Memory)
       → (let r = run program budget at labels m in
-      stateOf (afterOperations program (r .position .executed - at .executed) (Stepped.going at labels m)) ≡ (r .position, r .labels, r .memory))
+      stateOf (afterOperations (stepped program) (r .position .executed - at .executed) (Stepped.going at labels m)) ≡ (r .position, r .labels, r .memory))

@@ -46,8 +46,8 @@ pub(crate) fn by_space(space: u64, unique: u64, register: u64, ram: u64) -> u64
     ensures { λ r. ⌜ r ≡ bySpace space unique register ram ⌝ }
 {
     match space {
-        2 => unique,
         3 => register,
+        2 => unique,
         4 => ram,
         _ => 0,
     }

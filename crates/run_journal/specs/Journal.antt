@@ -1,5 +1,5 @@
 -- The journal of a window: an entry for each operation, and what undoing them gives.
-use Prim.Native.Nat.{ℕ, zero, suc, _+_, _*_, _%_, _≤_, _<_}
+use Prim.Native.Nat.{ℕ, zero, suc, _+_, _*_, _≤_, _<_}
 use mathlib.Core.Bool.{false, cond, _&&_}
 use mathlib.Core.List.{List, [], _∷_}
 use mathlib.Core.Path.{_≡_}
@@ -72,11 +72,3 @@ pub record Undoable (journal : List ℕ) (n : ℕ) (labels m : Memory) : Type 0 
   pub room : entryWords * n ≤ length journal
   pub placed : (k : ℕ) → k < n → Placed m (entryIn journal k .target)
   pub lengths : lengthsOf labels ≡ lengthsOf m
-
--- ---- clearing
-
--- The words before place n that are an even number of places behind `first`, 0 or 1, are zeros; the others are as they were.
-pub record EverySecondCleared (first n : ℕ) (journal journal′ : List ℕ) : Type 0 where
-  pub sameLength : length journal′ ≡ length journal
-  pub zeros : (k : ℕ) → k < n → k % 2 ≡ first → getD journal′ k 0 ≡ 0
-  pub others : (k : ℕ) → (k < n → k % 2 ≡ first → ⊥) → getD journal′ k 0 ≡ getD journal k 0

@@ -125,9 +125,9 @@ pub fn write(
     let at = v.offset as usize;
     let size = v.size as usize;
     match space {
-        2 => write_in(big, unique, at, size, value),
-        3 => write_in(big, register, at, size, value),
         4 => write_in(big, ram, at, size, value),
+        3 => write_in(big, register, at, size, value),
+        2 => write_in(big, unique, at, size, value),
         _ => {}
     }
 }

@@ -22,11 +22,12 @@ use Rattle.machine.specs.Run.{indexOf}
 use Rattle.machine.specs.Conditions.{exceedsSpace, outOfBounds, dividesByZero, writesLog, taken, lowPart, branchTaken, exits, nextIndex, destinationBytes, Words}
 use Rattle.machine.proofs.Conditions.{Destination, formed, few-operations, when}
 use Rattle.machine.proofs.Cases.{either}
+use Rattle.machine.proofs.Ranges.{space-small}
 use Rattle.run_memory.specs.Placed.{Placed}
 use Rattle.run_plan.specs.declared.Plan.{Plan}
 use Rattle.run_plan.specs.Valid.{Valid}
 use Rattle.run_plan.specs.Plans.{control, lowDue, exitPlan, nextPlan, planned}
-use Rattle.run_plan.proofs.Places.{space-small, placed, movable}
+use Rattle.run_plan.proofs.Places.{placed, movable}
 
 pub nowhere : (m : Memory) → Placed m absent
 unfolding absent

@@ -1,11 +1,11 @@
 -- What a well-formed operation gives the code: where it may read, what it may move and what it may compute.
-use Prim.Native.Nat.{ℕ, _+_, _*_, _%_, _^_, _≤_, _<_}
+use Prim.Native.Nat.{ℕ, _+_, _*_, _^_, _≤_, _<_}
 use native.Mathlib.Nat.{div-mul-le-self}
 use mathlib.Core.Path.{_≡_, refl, sym, subst}
 use mathlib.Core.Bool.{Bool, true, false, cond, not, _&&_}
 use mathlib.Core.List.{List, []}
 use native.Mathlib.Omega.{arith}
-use borrow.Author.Tests.{leb-true, not-false}
+use borrow.Author.Tests.{not-false}
 use lib.Dec.{eqb, leb}
 use lib.ListN.{length}
 use Rattle.word.specs.Word.{isSize, Bytes}
@@ -18,13 +18,14 @@ use Rattle.operation.specs.declared.layout.Lengths.{Lengths}
 use Rattle.operation.specs.Layout.{wordsizeOf, wordsPerOperation, operationCount, opcodeAt, varnodeAt, absent}
 use Rattle.operation.specs.Rules.{accesses, branches, namesSpace, breaksPlace, lengthOf, breaksSize}
 use Rattle.arithmetic.proofs.Table.{data-shape}
-use Rattle.validation.specs.Verdict.{mostOperations, mostBytes, wordsizesInRange, settingsInRange, lengthsInRange}
+use Rattle.validation.specs.Verdict.{mostOperations, wordsizesInRange, settingsInRange}
 use Rattle.validation.specs.WellFormed.{WellFormed}
 use Rattle.machine.specs.Memory.{Memory, OfBytes, spaces, lengthsOf, spaceOf, valueAt}
 use Rattle.machine.specs.Effect.{operationAt}
 use Rattle.machine.specs.Conditions.{Words}
 use Rattle.machine.proofs.Conditions.{Destination, Formed, formed, names-bytes, each-space}
 use Rattle.machine.proofs.Cases.{either}
+use Rattle.machine.proofs.Ranges.{in-range, space-small}
 use Rattle.run_memory.specs.Placed.{Placed}
 use Rattle.run_plan.specs.Valid.{Valid}
 use Rattle.run_plan.specs.Plans.{Movable, Addressable, Branching, Computable}
@@ -142,19 +143,6 @@ wordsize-in-range settings e space low high =
     let one = both (isSize (w .unique)) (isSize (w .register)) (two .0) in
     each-space (λ n. isSize (wordsizeOf w n) ≡ true) (one .0) (one .1) (two .1) space low high
 
-pub in-range : (lengths : Lengths) (list : List ℕ) → lengthsInRange lengths list ≡ true
-    → (operationCount list ≤ mostOperations) × (lengths .unique ≤ mostBytes) × (lengths .register ≤ mostBytes) × (lengths .ram ≤ mostBytes)
-unfolding lengthsInRange
-in-range lengths list e =
-    let whole : Bool = eqb (length list % wordsPerOperation) 0 in
-    let few : Bool = leb (operationCount list) mostOperations in
-    let u : Bool = leb (lengths .unique) mostBytes in
-    let r : Bool = leb (lengths .register) mostBytes in
-    let a = both (whole && few && u && r) (leb (lengths .ram) mostBytes) e in
-    let b = both (whole && few && u) r (a .0) in
-    let c = both (whole && few) u (b .0) in
-    (leb-true _ _ (both whole few (c .0) .1), leb-true _ _ (c .1), leb-true _ _ (b .1), leb-true _ _ (a .1))
-
 -- LOAD has an output and STORE an input2, each of at least one byte
 moves-some : (n : ℕ) → accesses n ≡ true → (output input2 : Varnode) → (hasPlace n 0 ≡ true → 1 ≤ output .size) → (hasPlace n 3 ≡ true → 1 ≤ input2 .size)
     → 1 ≤ cond (eqb n 2) output input2 .size
@@ -162,17 +150,6 @@ unfolding hasPlace outputs inputs rowOf opcodes
 moves-some n a output input2 =
     each-access (λ k. (hasPlace k 0 ≡ true → 1 ≤ output .size) → (hasPlace k 3 ≡ true → 1 ≤ input2 .size) → 1 ≤ cond (eqb k 2) output input2 .size)
     (λ f g. f refl) (λ f g. g refl) n a
-
-pub space-small : (m : Memory) (list : List ℕ) → lengthsInRange (lengthsOf m) list ≡ true → (space : ℕ) → length (spaceOf m space) ≤ mostBytes
-unfolding lengthOf
-space-small m list e space =
-    let r = in-range (lengthsOf m) list e in
-    let none : 0 ≤ mostBytes = omega arith in
-    rw (← space-length m space)
-    (either Small (eqb space 2) _ _ (r .1) (either Small (eqb space 3) _ _ (r .2) (either Small (eqb space 4) _ _ (r .3) none)))
-  where
-    Small : ℕ → Type 0
-    Small n = n ≤ mostBytes
 
 -- LOAD and STORE at a pointer
 pub addressable : (settings : Settings) (m : Memory) (list : List ℕ) (i : ℕ) → settingsInRange settings ≡ true → (v : Valid (lengthsOf m) list)

@@ -1,25 +1,24 @@
 -- What a call that is not refused may rely on, and what a call leaves.
-use Prim.Native.Nat.{ℕ, _≤_, _<_}
-use mathlib.Core.Bool.{Bool, true, false, cond, not, _&&_, true≢false}
+use Prim.Native.Nat.{ℕ, _≤_}
+use mathlib.Core.Bool.{Bool, true, false, _&&_, true≢false}
 use mathlib.Core.List.{List}
 use mathlib.Core.Path.{_≡_, refl, sym, ap, _∙_}
 use native.Mathlib.Nat.{sub-zero}
-use native.Mathlib.Omega.{arith}
-use borrow.Author.Tests.{eq-eqb, ne-eqb, eqb-true, eqb-false, ltb-false, not-true, not-false}
-use lib.Dec.{eqb, ltb}
+use borrow.Author.Tests.{eq-eqb, ne-eqb, eqb-true}
+use lib.Dec.{eqb}
 use lib.ListN.{length}
 use Rattle.integer.proofs.Booleans.{both}
 use Rattle.operation.specs.declared.layout.Settings.{Settings}
 use Rattle.operation.specs.declared.layout.Lengths.{Lengths}
 use Rattle.operation.specs.declared.report.Report.{Report}
 use Rattle.operation.specs.Layout.{operationCount}
-use Rattle.validation.specs.declared.Malformed.{Malformed}
-use Rattle.validation.specs.Verdict.{settingsInRange, lengthsInRange, malformed, refusalReport, verdict}
+use Rattle.validation.specs.Verdict.{settingsInRange, refusalReport, verdict}
 use Rattle.validation.proofs.WellFormed.{verdict-zero}
 use Rattle.machine.specs.Program.{programOf}
 use Rattle.machine.specs.Memory.{Memory, spaces, lengthsOf}
 use Rattle.machine.specs.Run.{run}
 use Rattle.machine.specs.Calls.{Outcome, unlabelled, plainOutcome, labelledOutcome, sameLengths, refusal, starting, outcomeOf, called}
+use Rattle.machine.proofs.Refusals.{accepted as nothing-refused}
 use Rattle.machine.proofs.Resume.{no-labels}
 use Rattle.speculation.specs.Speculation.{speculate, journalWords, speculativeRefusal, Speculation, speculation, journalAfter, calledAhead}
 use Rattle.speculation.proofs.Accepted.{ahead-accepted}
@@ -28,40 +27,21 @@ use Rattle.run_execution.specs.Loops.{position}
 use Rattle.run_labelled.specs.Turns.{Fitting}
 use Rattle.run_window.specs.Windows.{Spared}
 
--- a refusal that was not called for, and the refusals after it
-not-refused : (t : Bool) (n i : ℕ) (rest : Report) → (t ≡ true → 0 < n) → cond t (refusalReport n i) rest .ending ≡ 0 → (t ≡ false) × (rest .ending ≡ 0)
-unfolding refusalReport
-not-refused true n i rest h e = absurd (let l : 0 < n = h refl in let z : ⊥ = omega (arith, l, e) in z)
-not-refused false n i rest h e = (refl, e)
-
 -- where nothing is refused, the loops may run, and no label calls for 11 or 12
 pub accepted : (settings : Settings) (lengths : Lengths) (list : List ℕ) (start : ℕ) (fitting valid : Bool) (found : Report)
     → found ≡ refusal settings lengths list start fitting valid → found .ending ≡ 0
     → Valid lengths list × (start ≤ operationCount list) × (fitting ≡ true) × (valid ≡ true) × (settingsInRange settings ≡ true)
-unfolding refusal verdict refusalReport
+unfolding verdict refusalReport
 accepted settings lengths list start fitting valid found f e =
-    let t1 = not-refused (not (settingsInRange settings)) 10 0 _ (λ h. omega arith) (rw f at e) in
-    let t2 = not-refused (not (lengthsInRange lengths list && fitting)) 11 0 _ (λ h. omega arith) (t1 .1) in
-    let t3 = not-refused (not valid) 12 0 _ (λ h. omega arith) (t2 .1) in
-    let t4 = not-refused (not (eqb (first .rule) 0)) (first .rule) (first .index) _ nonzero (t3 .1) in
-    let t5 = not-refused (ltb (operationCount list) start) 27 0 (refusalReport 0 0) (λ h. omega arith) (t4 .1) in
-    let l = both (lengthsInRange lengths list) fitting (not-false _ (t2 .0)) in
-    let v = verdict-zero settings lengths list (no-ending (not-false _ (t1 .0)) (l .0) (eqb-true (first .rule) 0 (not-false _ (t4 .0)))) in (
-      record { addressSize = settings .«address_size»; inRange = l .0; operations = v .2 },
-      ltb-false (operationCount list) start (t5 .0),
-      l .1,
-      not-false valid (t3 .0),
-      not-false _ (t1 .0),
+    let a = nothing-refused settings lengths list start fitting valid (eq-eqb _ 0 (rw f at e)) in
+    let zero : verdict settings lengths list .ending ≡ 0 = rw (a .settingsRight, a .lengthsRight) (a .wellFormed) in
+    let v = verdict-zero settings lengths list zero in (
+      record { addressSize = settings .«address_size»; inRange = a .lengthsRight; operations = v .2 },
+      a .startInside,
+      a .labelsFit,
+      a .labelsRight,
+      a .settingsRight,
     )
-  where
-    first : Malformed
-    first = malformed (settings .«address_size») lengths list
-
-    nonzero : not (eqb (first .rule) 0) ≡ true → 0 < first .rule
-    nonzero h = let n : first .rule ≡ 0 → ⊥ = eqb-false (first .rule) 0 (not-true _ h) in omega arith
-
-    no-ending : settingsInRange settings ≡ true → lengthsInRange lengths list ≡ true → first .rule ≡ 0 → verdict settings lengths list .ending ≡ 0
-    no-ending s l r = rw (s, l) r
 
 -- ---- what a call leaves
 

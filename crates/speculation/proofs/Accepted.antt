@@ -1,24 +1,23 @@
 -- The refusals of a speculative run, and what a run that is not refused may rely on.
 use Prim.Native.Nat.{ℕ, _≤_}
 use native.Mathlib.Omega.{arith}
-use mathlib.Core.Bool.{Bool, true, false, cond, not, _&&_, true≢false}
+use mathlib.Core.Bool.{Bool, true, false, cond, _&&_, true≢false}
 use mathlib.Core.List.{List}
-use mathlib.Core.Path.{_≡_, refl, sym, _∙_}
+use mathlib.Core.Path.{_≡_, refl, sym}
 use borrow.Author.Tests.{eqb-true, leb-true, le-leb}
 use lib.Dec.{eqb, leb}
 use Rattle.operation.specs.declared.layout.Settings.{Settings}
 use Rattle.operation.specs.declared.layout.Lengths.{Lengths}
-use Rattle.operation.specs.declared.report.Report.{Report}
-use Rattle.validation.specs.Verdict.{settingsInRange, lengthsInRange, refusalReport}
+use Rattle.validation.specs.Verdict.{refusalReport}
 use Rattle.machine.specs.Calls.{refusal}
 use Rattle.machine.proofs.Cases.{either}
-use Rattle.machine.proofs.Refusals.{known, Refuses, refuses, refusal-refuses, unfitting}
+use Rattle.machine.proofs.Refusals.{known, Refuses, early, refusal-refuses, accepted}
 use Rattle.speculation.specs.Speculation.{mostAhead, journalWords, speculativeRefusal}
 
 module _ (settings : Settings) (lengths : Lengths) (list : List ℕ) (start window words : ℕ) (fitting valid : Bool) where
   pub ahead-refuses : Refuses (speculativeRefusal settings lengths list start window words fitting valid)
   unfolding speculativeRefusal
-  ahead-refuses = either Refuses (leb window mostAhead) _ _ (refusal-refuses settings lengths list start _ valid) (refuses 10 0 (known 10 (omega arith) (omega arith)))
+  ahead-refuses = either Refuses (leb window mostAhead) _ _ (refusal-refuses settings lengths list start _ valid) (early 10 0 (known 10 (omega arith) (omega arith)))
 
   -- with window and journal in range it is the labelled run's
   pub ahead-refusal : window ≤ mostAhead → journalWords window ≤ words
@@ -33,7 +32,7 @@ module _ (settings : Settings) (lengths : Lengths) (list : List ℕ) (start wind
   ahead-accepted = by (leb window mostAhead) refl fitting (leb (journalWords window) words) refl
     where
       unfit : {A : Type 0} → eqb (refusal settings lengths list start false valid .ending) 0 ≡ true → A
-      unfit e = absurd (true≢false (sym e ∙ unfitting settings lengths list start valid))
+      unfit e = absurd (true≢false (sym (accepted settings lengths list start false valid e .labelsFit)))
 
       by : (w : Bool) → leb window mostAhead ≡ w → (f j : Bool) → leb (journalWords window) words ≡ j
           → eqb (cond w (refusal settings lengths list start (j && f) valid) (refusalReport 10 0) .ending) 0 ≡ true
@@ -42,14 +41,3 @@ module _ (settings : Settings) (lengths : Lengths) (list : List ℕ) (start wind
       by true w false true j e = unfit e
       by true w f false j e = unfit e
       by false w f j k e = absurd (let z : _≡_ {A = ℕ} 10 0 = eqb-true 10 0 e in omega (arith, z))
-
--- the lengths of a run that is not refused are in range
-pub accepted-lengths : (settings : Settings) (lengths : Lengths) (list : List ℕ) (start : ℕ) (fitting valid : Bool)
-    → eqb (refusal settings lengths list start fitting valid .ending) 0 ≡ true → lengthsInRange lengths list ≡ true
-unfolding refusal refusalReport
-accepted-lengths settings lengths list start fitting valid = by (settingsInRange settings) (lengthsInRange lengths list) _
-  where
-    by : (s l : Bool) (rest : Report) → eqb (cond (not s) (refusalReport 10 0) (cond (not (l && fitting)) (refusalReport 11 0) rest) .ending) 0 ≡ true → l ≡ true
-    by true true rest z = refl
-    by true false rest z = absurd (let w : _≡_ {A = ℕ} 11 0 = eqb-true 11 0 z in omega (arith, w))
-    by false l rest z = absurd (let w : _≡_ {A = ℕ} 10 0 = eqb-true 10 0 z in omega (arith, w))

@@ -1,5 +1,5 @@
 -- Every log word of a labelled run is below 2^63.
-use Prim.Native.Nat.{ℕ, zero, suc, _+_, _*_, _%_, _^_, _≤_, _<_}
+use Prim.Native.Nat.{ℕ, zero, suc, _+_, _*_, _^_, _≤_, _<_}
 use native.Mathlib.Omega.{arith}
 use mathlib.Core.Bool.{Bool, true, false, cond}
 use mathlib.Core.List.{List, [], _∷_, _++_}
@@ -7,24 +7,22 @@ use mathlib.Core.Path.{_≡_, refl}
 use borrow.Author.Tests.{leb-true, ltb-true}
 use lib.Dec.{eqb, leb, ltb}
 use lib.ListN.{length, drop, getD, List·getD-append}
-use Rattle.integer.proofs.Booleans.{both}
 use Rattle.operation.specs.declared.layout.Settings.{Settings}
-use Rattle.operation.specs.declared.layout.Lengths.{Lengths}
 use Rattle.operation.specs.declared.layout.Varnode.{Varnode}
 use Rattle.operation.specs.declared.report.Report.{Report}
-use Rattle.operation.specs.Layout.{wordsPerOperation, operationCount}
+use Rattle.operation.specs.Layout.{operationCount}
 use Rattle.validation.specs.Verdict.{mostOperations, mostBytes, lengthsInRange}
 use Rattle.machine.specs.Program.{Program, programOf}
-use Rattle.machine.specs.Memory.{Memory, lengthsOf, spaceOf, written}
+use Rattle.machine.specs.Memory.{Memory, lengthsOf, written}
 use Rattle.machine.specs.Effect.{Operation, Kind, operationAt, target}
 use Rattle.machine.specs.Run.{Stop, Decision, Position, Ended, Stepped, logWord, logging, goTo, access, checked, decided, advanced, ended, applyDecision, executeAs, execute}
 use Rattle.machine.specs.Run.{stepped, continued, run}
 use Rattle.machine.specs.Calls.{Outcome, sameLengths, labelsInRange, refusal, logAfter, outcomeOf, starting, called, labelledRun}
 use Rattle.machine.proofs.Cases.{either}
+use Rattle.machine.proofs.Ranges.{in-range, space-small}
 use Rattle.machine.proofs.Kept.{written-lengths}
-use Rattle.machine.proofs.Refusals.{refusal-refuses, refusal-report}
+use Rattle.machine.proofs.Refusals.{refusal-refuses, refusal-report, accepted}
 use Rattle.speculation.specs.Window.{windowMark}
-use Rattle.speculation.proofs.Accepted.{accepted-lengths}
 
 -- ---- words below 2^63
 
@@ -40,27 +38,6 @@ pub below-at : {ws : List ℕ} → Below ws → (k : ℕ) → k < length ws → 
 below-at none k h = absurd (omega arith)
 below-at (more w p) zero h = w
 below-at (more w p) (suc k) h = below-at p k (omega arith)
-
--- ---- the lengths of a run that is not refused
-
-in-range : (lengths : Lengths) (list : List ℕ) → lengthsInRange lengths list ≡ true
-    → (operationCount list ≤ mostOperations) × (lengths .unique ≤ mostBytes) × (lengths .register ≤ mostBytes) × (lengths .ram ≤ mostBytes)
-unfolding lengthsInRange
-in-range lengths list e =
-    let a = both _ (leb (lengths .ram) mostBytes) e in
-    let b = both _ (leb (lengths .register) mostBytes) (a .0) in
-    let c = both _ (leb (lengths .unique) mostBytes) (b .0) in
-    let d = both (eqb (length list % wordsPerOperation) 0) (leb (operationCount list) mostOperations) (c .0) in
-    (leb-true _ _ (d .1), leb-true _ _ (c .1), leb-true _ _ (b .1), leb-true _ _ (a .1))
-
-space-small : (m : Memory) (list : List ℕ) → lengthsInRange (lengthsOf m) list ≡ true → (space : ℕ) → length (spaceOf m space) ≤ mostBytes
-unfolding lengthsOf spaceOf
-space-small m list e space =
-    let r = in-range (lengthsOf m) list e in
-    either Small (eqb space 2) _ _ (r .1) (either Small (eqb space 3) _ _ (r .2) (either Small (eqb space 4) _ _ (r .3) (omega arith)))
-  where
-    Small : List ℕ → Type 0
-    Small l = length l ≤ mostBytes
 
 -- ---- the words of one operation
 
@@ -175,7 +152,7 @@ labelled-below settings list start budget log labels m k = by (eqb (refused .end
 
     by : (t : Bool) → eqb (refused .ending) 0 ≡ t → k < cond t (outcomeOf log r) lent .report .logged → getD (cond t (outcomeOf log r) lent .log) k 0 < windowMark
     by true t h =
-        let l = accepted-lengths settings (lengthsOf m) list start fitting (labelsInRange labels) t in
+        let l = accepted settings (lengthsOf m) list start fitting (labelsInRange labels) t .lengthsRight in
         let w = run-below (programOf settings list) budget (starting start (length log)) labels m l none in
         rw (List·getD-append (r .position .log) (drop (length (r .position .log)) log) 0 k h) (below-at w k h)
     by false t h = absurd (omega (arith, h, refusal-report (refusal-refuses settings (lengthsOf m) list start fitting (labelsInRange labels)) .1))

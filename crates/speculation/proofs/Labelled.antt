@@ -14,12 +14,12 @@ use Rattle.machine.specs.Program.{programOf}
 use Rattle.machine.specs.Memory.{Memory, lengthsOf}
 use Rattle.machine.specs.Run.{Position, Ended, run}
 use Rattle.machine.specs.Calls.{Outcome, labelledOutcome, sameLengths, labelsInRange, refusal, starting, outcomeOf, called, labelledRun}
-use Rattle.machine.proofs.Refusals.{refusal-refuses, refusal-report}
+use Rattle.machine.proofs.Refusals.{refusal-refuses, refusal-report, accepted}
 use Rattle.machine.proofs.Noninterference.{logged-words}
 use Rattle.speculation.specs.Window.{windowMark, marked}
 use Rattle.speculation.specs.Speculation.{mostAhead, journalWords, Speculation, speculation, speculate, journalAfter, calledAhead, speculativeRun}
 use Rattle.speculation.specs.Labelled.{unmarked, MarkedAside, AgainstLabelled}
-use Rattle.speculation.proofs.Accepted.{ahead-refusal, accepted-lengths}
+use Rattle.speculation.proofs.Accepted.{ahead-refusal}
 use Rattle.speculation.proofs.Below.{Below, none, more, run-below, labelled-below}
 use Rattle.speculation.proofs.NoWindow.{no-window}
 use Rattle.speculation.proofs.Aside.{Aside, At, placed, Equal, speculate-equal}
@@ -110,7 +110,7 @@ against-labelled = record {
       rw refused
       (called-aside settings list start budget window log journal labels m (refusal settings (lengthsOf m) list start fitting valid)
       (refusal-report (refusal-refuses settings (lengthsOf m) list start fitting valid) .1)
-      (accepted-lengths settings (lengthsOf m) list start fitting valid)
+      (λ z. accepted settings (lengthsOf m) list start fitting valid z .lengthsRight)
       (not-short (rw refused at n34) (rw refused at n35)));
   below = labelled-below;
   noWindow = no-window;

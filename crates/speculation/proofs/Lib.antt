@@ -10,3 +10,4 @@ pub mod Labelled
 pub mod Limits
 pub mod Resume
 pub mod Conditions
+pub mod Pinned

@@ -1,34 +1,33 @@
 -- Refusals, counts, log words and the journal.
-use Prim.Native.Nat.{ℕ, zero, suc, _-_, _≤_}
+use Prim.Native.Nat.{ℕ, _-_, _≤_}
 use native.Mathlib.Omega.{arith}
 use mathlib.Core.Bool.{Bool, true, false, cond, _&&_}
 use mathlib.Core.List.{List}
 use mathlib.Core.Path.{_≡_, refl, _∙_}
 use borrow.Author.Tests.{eqb-false, le-leb, lt-leb}
-use lib.Dec.{eqb, leb, ltb}
+use lib.Dec.{eqb, leb}
 use lib.ListN.{length, drop, replicate, length-append, length-drop, length-replicate, getD-replicate, List·getD-append}
 use Rattle.operation.specs.declared.layout.Settings.{Settings}
 use Rattle.operation.specs.declared.layout.Lengths.{Lengths}
 use Rattle.operation.specs.declared.report.Report.{Report}
-use Rattle.operation.specs.Layout.{operationCount}
 use Rattle.validation.specs.Verdict.{refusalReport, lengthsInRange}
 use Rattle.machine.specs.Program.{Program, programOf}
 use Rattle.machine.specs.Memory.{Memory, lengthsOf}
-use Rattle.machine.specs.Run.{Position, Ended, Stepped, ended, continued}
+use Rattle.machine.specs.Run.{Position, Ended, Stepped, ended}
 use Rattle.machine.specs.Calls.{sameLengths, labelsInRange, outcomeOf, starting}
-use Rattle.machine.specs.Limits.{Unchanged, Limited}
+use Rattle.machine.specs.Limits.{Unchanged, Limited, afterOperations}
 use Rattle.machine.proofs.Cases.{either-equal}
-use Rattle.machine.proofs.Refusals.{none, known, Refuses, refuses}
+use Rattle.machine.proofs.Refusals.{none, known, Refuses, early, late}
 use Rattle.machine.proofs.Order.{refusals-in-order}
-use Rattle.machine.proofs.Counts.{Run, Ran, not-refused, Counts, stopped-operation, counted-operation}
-use Rattle.machine.proofs.Limits.{ran-limited, refused-limited, refused-unchanged}
+use Rattle.machine.proofs.Counts.{Ran, not-refused, stopped-operation, counted-operation}
+use Rattle.machine.proofs.Limits.{ran-limited, refused-limited, refused-unchanged, run-after}
 use Rattle.machine.proofs.Pinned.{lent-word}
 use Rattle.machine.proofs.Runs.{started-kept}
 use Rattle.speculation.specs.Window.{speculated}
 use Rattle.speculation.specs.Speculation.{mostAhead, journalWords, speculativeRefusal, Speculation, speculation, speculate, journalAfter, calledAhead, speculativeRun}
-use Rattle.speculation.specs.Limits.{AtTheirPlace, Cleared, afterSpeculated, Counted, Answer, SpeculativeLimits}
+use Rattle.speculation.specs.Limits.{AtTheirPlace, Cleared, Counted, Answer, SpeculativeLimits}
 use Rattle.speculation.proofs.Accepted.{ahead-refuses, ahead-refusal, ahead-accepted}
-use Rattle.speculation.proofs.Runs.{speculated-ends, speculated-counts, speculate-laws}
+use Rattle.speculation.proofs.Runs.{speculate-repeats, speculated-counts, speculated-laws, speculate-laws}
 
 -- ---- refusals
 
@@ -74,12 +73,14 @@ module _ (settings : Settings) (list : List ℕ) (start budget window : ℕ) (lo
   -- it runs, or it is refused
   data Call : Speculation → Type 0 where
     ran : journalWords window ≤ length journal → Call (record { outcome = outcomeOf log runs; journal = journalAfter window journal })
-    refused : {r : Report} → Refuses r → 10 ≤ r .ending → r .ending ≤ 27 → Call (speculation r m labels log journal)
+    refused : {r : Report} → Refuses r → 10 ≤ r .ending → r .ending ≤ 27 → Answer (r .ending) → Call (speculation r m labels log journal)
 
   refused-call : {r : Report} → Refuses r → eqb (r .ending) 0 ≡ false → Call (speculation r m labels log journal)
   unfolding refusalReport
-  refused-call (refuses e i none) z = absurd (eqb-false 0 0 z refl)
-  refused-call (refuses e i (known n l h)) z = refused (refuses n i (known n l h)) l h
+  refused-call (early e i none) z = absurd (eqb-false 0 0 z refl)
+  refused-call (early e i (known n l h)) z = refused (early n i (known n l h)) l (omega (arith, h)) (Answer.early n l h)
+  refused-call (late e i none) z = absurd (eqb-false 0 0 z refl)
+  refused-call (late e i (known n l h)) z = refused (late n i (known n l h)) (omega (arith, l)) h (Answer.late n l h)
 
   call : Call (speculativeRun settings list start budget window log journal labels m)
   unfolding speculativeRun calledAhead
@@ -96,11 +97,11 @@ module _ (settings : Settings) (list : List ℕ) (start budget window : ℕ) (lo
   call-refused : {s : Speculation} → Call s → 10 ≤ s .outcome .report .ending → s .outcome .report .ending ≤ 27 → Unchanged log labels m (s .outcome) × (s .journal ≡ journal)
   unfolding outcomeOf
   call-refused (ran j) x y = absurd (not-refused (speculate-laws (programOf settings list) window .counts budget from labels m .ending) x y)
-  call-refused (refused r l h) x y = (refused-unchanged log labels m r, refl)
+  call-refused (refused r l h a) x y = (refused-unchanged log labels m r, refl)
 
   call-cleared : {s : Speculation} → Call s → (10 ≤ s .outcome .report .ending → s .outcome .report .ending ≤ 27 → ⊥) → Cleared window journal (s .journal)
   call-cleared (ran j) n = cleared window journal j
-  call-cleared (refused r l h) n = absurd (n l h)
+  call-cleared (refused r l h a) n = absurd (n l h)
 
   call-answer : {s : Speculation} → Call s → Answer (s .outcome .report .ending)
   unfolding outcomeOf
@@ -109,55 +110,24 @@ module _ (settings : Settings) (list : List ℕ) (start budget window : ℕ) (lo
       answer : {e : ℕ} → Ran e → Answer e
       answer (Ran.finished e h) = Answer.finished e h
       answer (Ran.stopped e l h) = Answer.stopped e l h
-  call-answer (refused {r} s l h) = Answer.refused (r .ending) l h
+  call-answer (refused r l h a) = a
 
   call-limited : {s : Speculation} → Call s → Limited budget log (s .outcome)
   unfolding starting
   call-limited (ran j) =
       let laws = speculate-laws (programOf settings list) window in
       ran-limited log labels m (laws .counts budget from labels m) (started-kept laws start budget log labels m .log)
-  call-limited (refused r l h) = refused-limited log labels m r budget
+  call-limited (refused r l h a) = refused-limited log labels m r budget
 
 -- ---- operations
 
-module _ (program : Program) (window : ℕ) where
-  after-next : (k : ℕ) (at : Position) (labels m : Memory) {a : Stepped} → speculated program window at labels m ≡ a
-      → afterSpeculated program window (suc k) (Stepped.going at labels m) ≡ afterSpeculated program window k a
-  unfolding afterSpeculated
-  after-next k at labels m s = rw s
-
-  abbrev Reached : Position → (labels m : Memory) → Ended → Type 0
-  Reached at labels m r = Counted program window r (afterSpeculated program window (r .position .executed - at .executed) (Stepped.going at labels m))
-
-  continued-reached : (budget : ℕ) (f : Position → Memory → Memory → Ended)
-      → ((at : Position) (labels m : Memory) → Run (at .executed) budget (f at labels m))
-      → ((at : Position) (labels m : Memory) → Reached at labels m (f at labels m))
-      → (at : Position) (labels m : Memory) {a : Stepped} → speculated program window at labels m ≡ a → {P : Ended → Type 0} → Counts at P a
-      → Reached at labels m (continued f a)
-  unfolding continued afterSpeculated
-  continued-reached budget f h q at labels m s (Counts.stays {r} e c p) =
-      let z : r .position .executed - at .executed ≡ 0 = omega (arith, c) in
-      rw z (Counted.stopped at labels m s c)
-  continued-reached budget f h q at labels m s (Counts.exited {r} e c) =
-      let z : r .position .executed - at .executed ≡ 1 = omega (arith, c) in
-      rw (z, s) (Counted.exited e)
-  continued-reached budget f h q at labels m s (Counts.goes {next} {ls} {n} e) =
-      let r = f next ls n in
-      let z : r .position .executed - at .executed ≡ suc (r .position .executed - next .executed) = omega (arith, e, h next ls n .before) in
-      rw (z, after-next (r .position .executed - next .executed) at labels m s) (q next ls n)
-
-  speculate-reached : (budget : ℕ) (at : Position) (labels m : Memory) → Reached at labels m (speculate program window budget at labels m)
-  unfolding speculate ended afterSpeculated
-  speculate-reached zero at labels m =
-      let z : at .executed - at .executed ≡ 0 = omega arith in
-      rw z (by (ltb (at .index) (operationCount (program .list))) refl)
-    where
-      by : (t : Bool) → ltb (at .index) (operationCount (program .list)) ≡ t → Counted program window (ended (cond t 2 0) 0 at labels m) (Stepped.going at labels m)
-      by true t = Counted.spent refl
-      by false t = Counted.stopped at labels m (speculated-ends program window at labels m t) refl
-  speculate-reached (suc budget) at labels m =
-      continued-reached budget _ (λ at′ l m′. speculate-laws program window .counts budget at′ l m′) (λ at′ l m′. speculate-reached budget at′ l m′) at labels m refl
-      (speculated-counts program window at labels m)
+counted-operations : (program : Program) (window budget : ℕ) (at : Position) (labels m : Memory)
+    → (let r = speculate program window budget at labels m in
+    Counted program window r (afterOperations (speculated program window) (r .position .executed - at .executed) (Stepped.going at labels m)))
+unfolding ended
+counted-operations program window =
+    run-after (speculated-laws program window) (speculate-repeats program window) (Counted program window) (λ at labels m. Counted.spent refl) (λ r e. Counted.exited e)
+    (λ at labels m r s n c. Counted.stopped at labels m s c)
 
 pub speculative-limits : SpeculativeLimits
 speculative-limits = record {
@@ -170,6 +140,6 @@ speculative-limits = record {
   endings = λ settings list start budget window log journal labels m. call-answer settings list start budget window log journal labels m (call settings list start budget window log journal labels m);
   limited = λ settings list start budget window log journal labels m. call-limited settings list start budget window log journal labels m (call settings list start budget window log journal labels m);
   counted = λ program window at at′ labels m labels′ m′. counted-operation (speculated-counts program window at labels m) at′ labels′ m′;
-  stoppedOperation = λ program window at labels m r. stopped-operation (speculated-counts program window at labels m) r;
-  countedOperations = speculate-reached;
+  stoppedOperation = λ program window at labels m r e h. stopped-operation (speculated-counts program window at labels m) r e (λ z. omega (arith, h, z));
+  countedOperations = counted-operations;
 }

@@ -14,7 +14,7 @@ use Rattle.machine.specs.Memory.{Memory, lengthsOf}
 use Rattle.machine.specs.Run.{Ended}
 use Rattle.machine.specs.Calls.{sameLengths, labelsInRange, logAfter, outcomeOf, starting}
 use Rattle.machine.specs.Resume.{unused}
-use Rattle.machine.proofs.Refusals.{not-stopped, restarted, accepted-labels}
+use Rattle.machine.proofs.Refusals.{not-stopped, accepted, restarted}
 use Rattle.machine.proofs.Runs.{started-kept}
 use Rattle.machine.proofs.Resume.{outcome-resumed}
 use Rattle.speculation.specs.Speculation.{journalWords, speculativeRefusal, Speculation, speculation, speculate, journalAfter, calledAhead, speculativeRun}
@@ -76,9 +76,9 @@ speculative-resumes settings list start b c window log journal labels m = by (eq
         let i = laws .index b (starting start (length log)) labels m e in
         let k = started-kept laws start b log labels m in
         let (fits, few, long, z) = ahead-accepted settings (lengthsOf m) list start window (length journal) fitting (labelsInRange labels) t in
-        let valid = accepted-labels settings (lengthsOf m) list start fitting (labelsInRange labels) z in
+        let a = accepted settings (lengthsOf m) list start fitting (labelsInRange labels) z in
         let same = cleared window journal long .sameLength in
         let again = ahead-refusal settings (lengthsOf m) list (r .position .index) window (length journal) fitting true few long
-        ∙ restarted settings (lengthsOf m) list start (r .position .index) fitting (labelsInRange labels) z i in
-        rw (k .memory, k .lengths, k .values valid, same, again) (resumed-call settings list start b c window log journal labels m e)
+        ∙ restarted a (r .position .index) i in
+        rw (k .memory, k .lengths, k .values (a .labelsRight), same, again) (resumed-call settings list start b c window log journal labels m e)
     by false t e = absurd (not-stopped (ahead-refuses settings (lengthsOf m) list start window (length journal) fitting (labelsInRange labels)) e)

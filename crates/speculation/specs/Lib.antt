@@ -5,3 +5,4 @@ pub mod Labelled
 pub mod Limits
 pub mod Resume
 pub mod Conditions
+pub mod Pinned

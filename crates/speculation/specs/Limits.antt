@@ -1,5 +1,5 @@
 -- Refusals, counts, log words and the journal of the speculative run.
-use Prim.Native.Nat.{ℕ, zero, suc, _*_, _-_, _≤_, _<_}
+use Prim.Native.Nat.{ℕ, suc, _*_, _-_, _≤_, _<_}
 use mathlib.Core.Bool.{Bool, true, false}
 use mathlib.Core.List.{List}
 use mathlib.Core.Path.{_≡_}
@@ -11,7 +11,7 @@ use Rattle.machine.specs.Program.{Program}
 use Rattle.machine.specs.Memory.{Memory}
 use Rattle.machine.specs.Run.{Position, Ended, Stepped}
 use Rattle.machine.specs.Calls.{refusal}
-use Rattle.machine.specs.Limits.{Unchanged, Limited}
+use Rattle.machine.specs.Limits.{Unchanged, Limited, afterOperations}
 use Rattle.speculation.specs.Window.{speculated}
 use Rattle.speculation.specs.Speculation.{speculate, speculativeRefusal, speculativeRun}
 
@@ -48,13 +48,7 @@ pub record StoppedAt (at : Position) (labels m : Memory) (r : Ended) : Type 0 wh
   pub sameLabels : r .labels ≡ labels
   pub sameMemory : r .memory ≡ m
 
--- The state after k single operations, each with its window.
-unfoldable pub afterSpeculated : Program → (window : ℕ) → ℕ → Stepped → Stepped
-afterSpeculated program window zero s = s
-afterSpeculated program window (suc k) (Stepped.halted r) = Stepped.halted r
-afterSpeculated program window (suc k) (Stepped.going at labels m) = afterSpeculated program window k (speculated program window at labels m)
-
--- How a run that ended stands to the state after as many single operations as it counts.
+-- How a run that ended stands to the state after as many single operations as it counts, each with its window.
 pub data Counted (program : Program) (window : ℕ) (r : Ended) : Stepped → Type 0 where
   -- 2 BUDGET: it is this state.
   spent : r .ending ≡ 2 → Counted program window r (Stepped.going (r .position) (r .labels) (r .memory))
@@ -66,10 +60,11 @@ pub data Counted (program : Program) (window : ℕ) (r : Ended) : Stepped → Ty
 
 -- ---- the call
 
--- 0 to 2 END, EXIT, BUDGET; 10 to 27 the refusals; 31 to 35 the stops.
+-- 0 to 2 END, EXIT, BUDGET; 10 to 12 and 21 to 27 the refusals; 31 to 35 the stops.
 pub data Answer : ℕ → Type 0 where
   finished : (e : ℕ) → e ≤ 2 → Answer e
-  refused : (e : ℕ) → 10 ≤ e → e ≤ 27 → Answer e
+  early : (e : ℕ) → 10 ≤ e → e ≤ 12 → Answer e
+  late : (e : ℕ) → 21 ≤ e → e ≤ 27 → Answer e
   stopped : (e : ℕ) → 31 ≤ e → e ≤ 35 → Answer e
 
 -- All of these.
@@ -99,4 +94,4 @@ pub record SpeculativeLimits : Type 0 where
       → speculated program window at labels m ≡ Stepped.halted r → 31 ≤ r .ending → StoppedAt at labels m r
   pub countedOperations : (program : Program) (window budget : ℕ) (at : Position) (labels m : Memory)
       → (let r = speculate program window budget at labels m in
-      Counted program window r (afterSpeculated program window (r .position .executed - at .executed) (Stepped.going at labels m)))
+      Counted program window r (afterOperations (speculated program window) (r .position .executed - at .executed) (Stepped.going at labels m)))

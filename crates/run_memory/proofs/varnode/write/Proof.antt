@@ -13,7 +13,7 @@ unfolding spaceOf
 write-in-requires c κs =
     let entry = c .before .before .before .before in
     let p = entry .before .before .pre in
-    (p .size, placed-in _ _ 2 (c .before .match .keys1) (lit≤ tt) p)
+    (p .size, placed-in _ _ 4 (c .before .match .keys1) (lit≤ tt) p)
 
 write-in-requires-2 : tie.Need-write-in-requires-2
 unfolding spaceOf
@@ -27,11 +27,11 @@ unfolding spaceOf
 write-in-requires-3 c κs =
     let entry = c .before .before .before .before in
     let p = entry .before .before .pre in
-    (p .size, placed-in _ _ 4 (c .before .match .keys3) (lit≤ tt) p)
+    (p .size, placed-in _ _ 2 (c .before .match .keys3) (lit≤ tt) p)
 
 returns : tie.Need-returns
 unfolding spaceOf withSpace bigEndian
-returns c = written-in _ _ 2 (c .before .before .before .before .match .keys1) _ _ (c .before .before .write-in .ensures)
+returns c = written-in _ _ 4 (c .before .before .before .before .match .keys1) _ _ (c .before .before .write-in .ensures)
 
 returns-2 : tie.Need-returns-2
 unfolding spaceOf withSpace bigEndian
@@ -39,12 +39,12 @@ returns-2 c = written-in _ _ 3 (c .before .before .before .before .match .keys2)
 
 returns-3 : tie.Need-returns-3
 unfolding spaceOf withSpace bigEndian
-returns-3 c = written-in _ _ 4 (c .before .before .before .before .match .keys3) _ _ (c .before .before .write-in3 .ensures)
+returns-3 c = written-in _ _ 2 (c .before .before .before .before .match .keys3) _ _ (c .before .before .write-in3 .ensures)
 
 returns-4 : tie.Need-returns-4
 returns-4 c =
     let r = c .match .rest in
-    sym (written-elsewhere _ _ (r .0 .0 .1) (r .0 .1) (r .1) _)
+    sym (written-elsewhere _ _ (r .1) (r .0 .1) (r .0 .0 .1) _)
 
 pub write-spec : {M : Type 1} → statement M
 write-spec =
