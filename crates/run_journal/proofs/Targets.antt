@@ -2,7 +2,7 @@
 use Prim.Native.Nat.{ℕ, _+_, _*_, _≤_, _<_}
 use native.Mathlib.Omega.{arith}
 use mathlib.Core.Path.{_≡_, refl, sym, ap, _∙_}
-use mathlib.Core.Bool.{Bool, true, false, cond, not, _&&_, true≢false}
+use mathlib.Core.Bool.{Bool, true, false, cond, not, _&&_}
 use mathlib.Core.List.{List}
 use borrow.Author.Tests.{eq-eqb, ne-eqb, eqb-true, eqb-false, not-false}
 use lib.Dec.{eqb, leb, ltb}
@@ -14,7 +14,7 @@ use Rattle.operation.specs.declared.layout.Settings.{Settings}
 use Rattle.operation.specs.declared.layout.Varnode.{Varnode}
 use Rattle.operation.specs.Layout.{wordsizeOf, operationCount, opcodeAt, varnodeAt, absent}
 use Rattle.operation.specs.Rules.{accesses, lengthOf}
-use Rattle.validation.specs.Verdict.{mostBytes, settingsInRange}
+use Rattle.validation.specs.Verdict.{settingsInRange}
 use Rattle.validation.specs.WellFormed.{WellFormed}
 use Rattle.machine.specs.Program.{Program, programOf, bigEndian}
 use Rattle.machine.specs.Memory.{Memory, lengthsOf, spaceOf, bytesAt, valueAt}
@@ -26,7 +26,7 @@ use Rattle.run_plan.specs.Valid.{Valid}
 use Rattle.run_plan.specs.Plans.{Addressable}
 use Rattle.run_plan.proofs.Bounds.{nowhere, destination-placed}
 use Rattle.run_plan.proofs.Places.{space-length, placed, movable, addressable}
-use Rattle.run_plan.proofs.Pointers.{may-multiply, product-fits, product-is}
+use Rattle.run_plan.proofs.Pointers.{product-fits, product-is}
 use Rattle.run_journal.specs.Journal.{targetBefore}
 
 -- ---- STORE

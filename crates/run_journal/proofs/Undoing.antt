@@ -1,26 +1,22 @@
 -- The journal's entries: written, read, undone, cleared.
 use Prim.Native.Nat.{ℕ, zero, suc, _+_, _*_, _-_, _/_, _%_, _≤_, _<_}
-use native.Mathlib.Nat.{zero-add}
 use native.Mathlib.Omega.{arith}
 use mathlib.Core.Path.{_≡_, refl, sym, ap, _∙_}
 use mathlib.Core.Bool.{Bool, true, false, cond}
-use mathlib.Core.List.{List, [], _∷_, _++_, append-assoc}
+use mathlib.Core.List.{List, _++_, append-assoc}
 use borrow.Author.Tests.{ne-eqb, leb-true, leb-false, ltb-true, ltb-false}
 use lib.Dec.{eqb, leb, ltb}
-use lib.ListN.{length, getD, take, drop, replicate, take-append-drop}
+use lib.ListN.{length, getD, take, drop, take-append-drop}
 use lib.Seq.{sets, sets-eq, length-sets, drop-drop}
-use Rattle.word.specs.Sum.{tabulate}
-use Rattle.word.specs.Word.{Bytes, part, valueOf, bytesOf}
+use Rattle.word.specs.Word.{part, valueOf, bytesOf}
 use Rattle.word.proofs.Laws.{part-length, part-at, part-bytes, stored-before, stored-at, stored-after, written-read}
-use Rattle.word.proofs.Sums.{tabulate-length, tabulate-is}
-use Rattle.word.proofs.Stores.{Storing, storing-all, entries}
+use Rattle.word.proofs.Sums.{tabulate-is}
+use Rattle.word.proofs.Stores.{entries}
 use Rattle.operation.specs.declared.layout.Varnode.{Varnode}
-use Rattle.operation.specs.declared.layout.Lengths.{Lengths}
 use Rattle.operation.specs.Layout.{describedBy}
 use Rattle.machine.specs.Memory.{Memory, OfBytes, lengthsOf, spaceOf, withSpace, bytesAt, written}
 use Rattle.machine.proofs.Conditions.{each-space}
 use Rattle.machine.proofs.Kept.{written-lengths}
-use Rattle.speculation.specs.Speculation.{journalWords, journalAfter}
 use Rattle.run_memory.specs.Placed.{Placed}
 use Rattle.run_memory.proofs.Spaces.{written-elsewhere}
 use Rattle.run_plan.proofs.Places.{space-length}

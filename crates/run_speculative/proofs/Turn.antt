@@ -2,13 +2,13 @@
 use Prim.Native.Nat.{ℕ, zero, suc, _+_, _-_, _*_, _%_, _^_, _≤_, _<_}
 use native.Mathlib.Omega.{arith}
 use mathlib.Core.Path.{_≡_, refl, sym, ap, subst, _∙_}
-use mathlib.Core.Bool.{Bool, true, false, cond, not, _&&_, _||_, true≢false}
-use mathlib.Core.List.{List, [], _∷_, _++_, append-assoc}
-use borrow.Author.Tests.{eq-eqb, ne-eqb, eqb-true, eqb-false, ltb-true, not-true, not-false}
+use mathlib.Core.Bool.{Bool, true, false, cond, not, _&&_, true≢false}
+use mathlib.Core.List.{List, [], _++_}
+use borrow.Author.Tests.{eq-eqb, eqb-true, eqb-false, ltb-true, not-true, not-false}
 use lib.Dec.{eqb, ltb}
 use lib.ListN.{length, take, drop, length-append}
 use lib.Seq.{take-append-seam, drop-append-seam, drop-drop}
-use Rattle.integer.proofs.Booleans.{both, neither}
+use Rattle.integer.proofs.Booleans.{both}
 use Rattle.operation.specs.declared.layout.Settings.{Settings}
 use Rattle.operation.specs.declared.report.Report.{Report}
 use Rattle.arithmetic.specs.Opcodes.{member}
@@ -16,7 +16,7 @@ use Rattle.operation.specs.Layout.{wordsPerOperation, operationCount, opcodeAt,
 use Rattle.operation.specs.Rules.{branches, relativeTarget}
 use Rattle.validation.specs.Verdict.{mostOperations, settingsInRange}
 use Rattle.machine.specs.Program.{Program, programOf}
-use Rattle.machine.specs.Memory.{Memory, OfBytes, lengthsOf, written, valueAt}
+use Rattle.machine.specs.Memory.{Memory, OfBytes, lengthsOf, valueAt}
 use Rattle.machine.specs.Effect.{Operation, Kind, operationAt, kindOf, target}
 use Rattle.machine.specs.Run.{Decision, Position, Ended, Stepped, indexOf, goTo, ended, applyDecision, executeAs, execute, stepped, continued, run}
 use Rattle.machine.specs.Calls.{Outcome, logAfter, outcomeOf, labelledOutcome}
@@ -32,7 +32,7 @@ use Rattle.speculation.proofs.NoWindow.{speculate-same}
 use Rattle.speculation.proofs.Unrolling.{afterEnded, another-operation, stopped-operation, no-other-way, window-opened, WayBy, one-way}
 use Rattle.run_plan.specs.Valid.{Valid}
 use Rattle.run_plan.proofs.Bounds.{relative-target}
-use Rattle.run_plan.proofs.Places.{valid-with, in-words, index-small}
+use Rattle.run_plan.proofs.Places.{in-words, index-small}
 use Rattle.run_execution.specs.Loops.{position}
 use Rattle.run_execution.proofs.Running.{run-end}
 use Rattle.run_labelled.proofs.Parts.{part-kept}

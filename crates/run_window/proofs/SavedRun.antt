@@ -1,7 +1,7 @@
 -- The loop over the operations of a window: a labelled run in turns of one operation, each with its entry in the journal.
 use Prim.Native.Nat.{ℕ, _+_, _-_, _*_, _≤_, _<_}
 use native.Mathlib.Omega.{arith}
-use mathlib.Core.Path.{_≡_, refl, sym, ap, _∙_}
+use mathlib.Core.Path.{_≡_, refl, ap}
 use mathlib.Core.Bool.{true, false, _&&_, true≢false}
 use mathlib.Core.List.{List}
 use borrow.Author.Tests.{lt-ltb, ltb-true}

@@ -1,14 +1,13 @@
 -- Operations of a window: the journal's entries undo them.
-use Prim.Native.Nat.{ℕ, zero, suc, _+_, _*_, _≤_, _<_}
+use Prim.Native.Nat.{ℕ, suc, _+_, _*_, _≤_, _<_}
 use native.Mathlib.Omega.{arith}
 use mathlib.Core.Path.{_≡_, refl, sym, ap, _∙_}
 use mathlib.Core.Bool.{Bool, true, false, cond, _&&_}
 use mathlib.Core.List.{List, [], _∷_}
 use borrow.Author.Tests.{eqb-true, eqb-false, ne-eqb, ltb-true, ltb-false}
 use lib.Dec.{eqb, ltb}
-use lib.ListN.{length, set, drop, replicate, length-replicate}
+use lib.ListN.{length, set, drop, length-replicate}
 use lib.Seq.{sets, length-sets, drop-set-lt}
-use Rattle.word.specs.Word.{bytesOf}
 use Rattle.word.proofs.Laws.{bytes-length}
 use Rattle.word.proofs.Tests.{by-cond}
 use Rattle.integer.proofs.Booleans.{neither}
@@ -18,19 +17,18 @@ use Rattle.machine.specs.Program.{Program, bigEndian}
 use Rattle.machine.specs.Memory.{Memory, OfBytes, lengthsOf, written, valueAt}
 use Rattle.machine.specs.Effect.{Operation, operationAt, pointee}
 use Rattle.machine.specs.Run.{Position, Ended, Stepped, advanced, ended, continued, run}
-use Rattle.machine.specs.Conditions.{leaks, operand1, exceedsSpace, outOfBounds, destinationBytes, labelsAfter, valueWritten, Words}
+use Rattle.machine.specs.Conditions.{leaks, operand1, exceedsSpace, outOfBounds, destinationBytes, labelsAfter, Words}
 use Rattle.machine.proofs.Kept.{written-lengths}
-use Rattle.machine.proofs.Cases.{either}
 use Rattle.speculation.specs.Speculation.{journalWords}
 use Rattle.run_memory.specs.Placed.{Placed}
 use Rattle.run_plan.specs.declared.Plan.{Plan}
 use Rattle.run_plan.specs.Valid.{Valid}
 use Rattle.run_plan.specs.Plans.{nextPlan, planned}
-use Rattle.run_plan.proofs.Steps.{wordsOf, applied, step-leak, step-applied}
+use Rattle.run_plan.proofs.Steps.{applied, step-leak, step-applied}
 use Rattle.run_execution.proofs.Running.{run-end}
 use Rattle.run_labelled.proofs.Marking.{plan-inside, plan-next}
 use Rattle.run_journal.specs.declared.Entry.{Entry}
-use Rattle.run_journal.specs.Journal.{targetBefore, numberAt, entryOf, entryWords, wordsOf as entryAsWords, entryIn, restored, bytesOfEntry, labelsOfEntry, undone, Undoable}
+use Rattle.run_journal.specs.Journal.{targetBefore, numberAt, entryOf, entryWords, wordsOf as entryAsWords, entryIn, restored, bytesOfEntry, labelsOfEntry, undone}
 use Rattle.run_journal.proofs.Undoing.{entry-written, entry-before, back, back-same, undone-same, placed-with}
 use Rattle.run_window.specs.Windows.{Spared, Saved}
 

@@ -20,7 +20,7 @@ use Rattle.machine.specs.Run.{run}
 use Rattle.machine.specs.Calls.{Outcome, unlabelled, plainOutcome, labelledOutcome, sameLengths, refusal, starting, outcomeOf, called}
 use Rattle.machine.proofs.Refusals.{accepted as nothing-refused}
 use Rattle.machine.proofs.Resume.{no-labels}
-use Rattle.speculation.specs.Speculation.{speculate, journalWords, speculativeRefusal, Speculation, speculation, journalAfter, calledAhead}
+use Rattle.speculation.specs.Speculation.{speculate, journalWords, speculativeRefusal, speculation, journalAfter, calledAhead}
 use Rattle.speculation.proofs.Accepted.{ahead-accepted}
 use Rattle.run_plan.specs.Valid.{Valid}
 use Rattle.run_execution.specs.Loops.{position}

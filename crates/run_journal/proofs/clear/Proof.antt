@@ -3,7 +3,6 @@ use Prim.Native.Nat.{_*_, _-_}
 use native.Mathlib.Nat.{zero-add}
 use native.Mathlib.Omega.{arith}
 use mathlib.Core.Path.{refl}
-use borrow.Author.Needs.{needs}
 use Rattle.word.proofs.Stores.{Storing, storing-none, storing-more, storing-length}
 use Rattle.run_journal.specs.Journal.{entryWords}
 use Rattle.run_journal.proofs.Clearing.{cleared}

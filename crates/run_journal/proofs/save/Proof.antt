@@ -1,5 +1,4 @@
 -- `run_journal::save` meets its contract.
-use native.Mathlib.Omega.{arith}
 use mathlib.Core.Path.{ap, _∙_}
 use borrow.Author.Needs.{needs}
 use lib.Seq.{sets}
