@@ -41,7 +41,8 @@ pub struct Lengths {
     pub ram: u64,
 }
 
-// One of three numbers, by the number of the space that it is for; 0 for any other space.
+// One of three numbers, by the number of the space that it is for; 0 for any other space. Register stands first for speed
+// (docs/DECISIONS.md).
 pub(crate) fn by_space(space: u64, unique: u64, register: u64, ram: u64) -> u64
     ensures { λ r. ⌜ r ≡ bySpace space unique register ram ⌝ }
 {

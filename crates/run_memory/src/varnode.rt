@@ -107,7 +107,7 @@ pub fn value_at<'a>(
     gather(big, bytes, v.offset as usize, v.size as usize)
 }
 
-// Writes a value to a varnode; to an absent one, nothing.
+// Writes a value to a varnode; to an absent one, nothing. Ram stands first for speed (docs/DECISIONS.md).
 pub fn write(
     settings: Settings,
     unique: &mut [u8],
