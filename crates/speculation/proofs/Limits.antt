@@ -22,8 +22,8 @@ use Rattle.machine.proofs.Order.{refusals-in-order}
 use Rattle.machine.proofs.Counts.{Ran, not-refused, stopped-operation, counted-operation}
 use Rattle.machine.proofs.Limits.{ran-limited, refused-limited, refused-unchanged, run-after}
 use Rattle.machine.proofs.Pinned.{lent-word}
-use Rattle.machine.proofs.Runs.{started-kept}
-use Rattle.speculation.specs.Window.{speculated}
+use Rattle.machine.proofs.Runs.{run-laws, started-kept}
+use Rattle.speculation.specs.Window.{ahead, speculated}
 use Rattle.speculation.specs.Speculation.{mostAhead, journalWords, speculativeRefusal, Speculation, speculation, speculate, journalAfter, calledAhead, speculativeRun}
 use Rattle.speculation.specs.Limits.{AtTheirPlace, Cleared, Counted, Answer, SpeculativeLimits}
 use Rattle.speculation.proofs.Accepted.{ahead-refuses, ahead-refusal, ahead-accepted}
@@ -129,6 +129,12 @@ counted-operations program window =
     run-after (speculated-laws program window) (speculate-repeats program window) (Counted program window) (λ at labels m. Counted.spent refl) (λ r e. Counted.exited e)
     (λ at labels m r s n c. Counted.stopped at labels m s c)
 
+ahead-limited : (program : Program) (window i room : ℕ) (labels m : Memory) → ahead program window i room labels m .position .executed ≤ window
+unfolding ahead starting
+ahead-limited program window i room labels m =
+    let c = run-laws program .counts window (starting i room) labels m .counted in
+    omega (arith, c)
+
 pub speculative-limits : SpeculativeLimits
 speculative-limits = record {
   inOrder = at-their-place;
@@ -139,6 +145,7 @@ speculative-limits = record {
       call-cleared settings list start budget window log journal labels m (call settings list start budget window log journal labels m) (λ x y. omega (arith, h, y));
   endings = λ settings list start budget window log journal labels m. call-answer settings list start budget window log journal labels m (call settings list start budget window log journal labels m);
   limited = λ settings list start budget window log journal labels m. call-limited settings list start budget window log journal labels m (call settings list start budget window log journal labels m);
+  aheadLimited = ahead-limited;
   counted = λ program window at at′ labels m labels′ m′. counted-operation (speculated-counts program window at labels m) at′ labels′ m′;
   stoppedOperation = λ program window at labels m r e h. stopped-operation (speculated-counts program window at labels m) r e (λ z. omega (arith, h, z));
   countedOperations = counted-operations;

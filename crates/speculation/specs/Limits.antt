@@ -12,7 +12,7 @@ use Rattle.machine.specs.Memory.{Memory}
 use Rattle.machine.specs.Run.{Position, Ended, Stepped}
 use Rattle.machine.specs.Calls.{refusal}
 use Rattle.machine.specs.Limits.{Unchanged, Limited, afterOperations}
-use Rattle.speculation.specs.Window.{speculated}
+use Rattle.speculation.specs.Window.{ahead, speculated}
 use Rattle.speculation.specs.Speculation.{speculate, speculativeRefusal, speculativeRun}
 
 -- ---- refusals
@@ -87,6 +87,8 @@ pub record SpeculativeLimits : Type 0 where
   -- Operations of windows spend no budget.
   pub limited : (settings : Settings) (list : List ℕ) (start budget window : ℕ) (log journal : List ℕ) (labels m : Memory)
       → Limited budget log (speculativeRun settings list start budget window log journal labels m .outcome)
+  -- A window executes at most W operations. An operation has at most one window, so that a run executes at most W + 1 times its budget.
+  pub aheadLimited : (program : Program) (window i room : ℕ) (labels m : Memory) → ahead program window i room labels m .position .executed ≤ window
   -- An operation that goes on is counted once, whatever its window did.
   pub counted : (program : Program) (window : ℕ) (at at′ : Position) (labels m labels′ m′ : Memory)
       → speculated program window at labels m ≡ Stepped.going at′ labels′ m′ → at′ .executed ≡ suc (at .executed)
