@@ -93,7 +93,7 @@ impl GuardedBuffer {
         &self.bytes[Self::GUARD..self.bytes.len() - Self::GUARD]
     }
 
-    fn lent_mut(&mut self) -> &mut [u8] {
+    pub fn lent_mut(&mut self) -> &mut [u8] {
         let end = self.bytes.len() - Self::GUARD;
         &mut self.bytes[Self::GUARD..end]
     }

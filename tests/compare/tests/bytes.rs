@@ -1,5 +1,7 @@
 //! `undrelvoa_gather` and `undrelvoa_scatter` and the second program: values in a buffer, read and
-//! written in either byte order, and calls that are refused.
+//! written in either byte order, one order against the other, and calls that are refused.
+
+use std::ops::Range;
 
 use compare::agreement::{check_gather, check_scatter, GuardedBuffer, Tally, MOST_RESULT_WORDS};
 use compare::campaign::Campaign;
@@ -12,6 +14,10 @@ use compare::{gather, scatter};
 use reference::answers::Place;
 
 const RANDOM_CALLS: u64 = 500_000;
+/// Pairs of calls, one in each order.
+const RANDOM_PAIRS: u64 = 250_000;
+const LITTLE: u64 = 0;
+const BIG: u64 = 1;
 const LONGEST_SMALL_BUFFER: u64 = 20;
 /// How many lengths small buffers have. An input of some tests is one of them, in turn.
 const SMALL_LENGTHS: u64 = LONGEST_SMALL_BUFFER + 1;
@@ -44,6 +50,82 @@ fn random_place(len: u64, random: &mut Random) -> Place {
     let offset =
         if random.once_in(10) { random.pick(&LARGE_OFFSETS) } else { random.below(len + 1) };
     Place { order, offset, size }
+}
+
+/// A part of a buffer that is read or written in one order.
+struct Part {
+    place: Place,
+    buffer: GuardedBuffer,
+}
+
+impl Part {
+    /// A part of `size` bytes anywhere in a buffer of any small length.
+    fn random(order: u64, size: u64, random: &mut Random) -> Part {
+        let len = size + random.below(LONGEST_SMALL_BUFFER - size + 1);
+        let offset = random.below(len - size + 1);
+        let buffer = GuardedBuffer::random(len as usize, random);
+        Part { place: Place { order, offset, size }, buffer }
+    }
+
+    fn range(&self) -> Range<usize> {
+        let start = self.place.offset as usize;
+        start..start + self.place.size as usize
+    }
+
+    fn bytes(&self) -> &[u8] {
+        &self.buffer.lent()[self.range()]
+    }
+
+    fn hold(&mut self, bytes: &[u8]) {
+        let range = self.range();
+        self.buffer.lent_mut()[range].copy_from_slice(bytes);
+    }
+
+    /// Its value, which the second program gives too.
+    fn gathered(&self) -> u64 {
+        let mut result = [0];
+        assert_eq!(check_gather(&self.place, &self.buffer, 1), 0, "{:#x?}", self.place);
+        gather(&self.place, self.buffer.lent(), &mut result);
+        result[0]
+    }
+
+    /// Writes a value there, as the second program does.
+    fn scatter(&mut self, value: u64) {
+        assert_eq!(check_scatter(&self.place, &mut self.buffer, value), 0, "{:#x?}", self.place);
+    }
+}
+
+fn reversed(bytes: &[u8]) -> Vec<u8> {
+    bytes.iter().rev().copied().collect()
+}
+
+/// The value of bytes in big order, by Rust's own rule.
+fn big_value(bytes: &[u8]) -> u64 {
+    let mut eight = [0; 8];
+    eight[8 - bytes.len()..].copy_from_slice(bytes);
+    u64::from_be_bytes(eight)
+}
+
+/// Big order reads bytes as little order reads them reversed, in another buffer. Gives back the value.
+fn check_reversed_reading(bytes: &[u8], random: &mut Random) -> u64 {
+    let size = bytes.len() as u64;
+    let mut big = Part::random(BIG, size, random);
+    let mut little = Part::random(LITTLE, size, random);
+    big.hold(bytes);
+    little.hold(&reversed(bytes));
+    let value = big_value(bytes);
+    assert_eq!((big.gathered(), little.gathered()), (value, value), "bytes {bytes:x?}");
+    value
+}
+
+/// Big order writes a value as little order does, reversed, in another buffer.
+fn check_reversed_writing(size: u64, value: u64, random: &mut Random) {
+    let mut big = Part::random(BIG, size, random);
+    let mut little = Part::random(LITTLE, size, random);
+    big.scatter(value);
+    little.scatter(value);
+    assert_eq!(big.bytes(), reversed(little.bytes()), "size {size}, value {value:#x}");
+    assert_eq!(big_value(big.bytes()), value, "size {size}");
 }
 
 /// Values to write, for any size: those at its borders and one too large, or any for a bad size.
@@ -182,6 +264,90 @@ fn what_was_written_is_read_back() {
         assert_eq!(result, [value], "{place:#x?}, bytes {bytes:x?}");
     }
     println!("scatter then gather: {campaign}, {} agreed", campaign.drawn());
+}
+
+#[test]
+fn big_order_is_little_order_reversed_on_random_bytes() {
+    const SEED: u64 = 0x5eed_0018;
+    const EACH_SIZE: u64 = 200;
+    let mut campaign = Campaign::new(SEED, RANDOM_PAIRS);
+    let mut of_size = [0; *SIZES.end() as usize];
+    for (_, mut random) in campaign.by_ref() {
+        let size = 1 + random.below(*SIZES.end());
+        let bytes: Vec<u8> = (0..size).map(|_| random.word() as u8).collect();
+        let value = check_reversed_reading(&bytes, &mut random);
+        check_reversed_writing(size, value, &mut random);
+        of_size[size as usize - 1] += 1;
+    }
+    println!(
+        "one order against the other, random bytes: {campaign}, {of_size:?} of sizes 1 to 8 agreed"
+    );
+    if campaign.is_whole() {
+        assert!(of_size.iter().all(|&count| count >= EACH_SIZE), "{of_size:?}");
+    }
+}
+
+#[test]
+fn big_order_is_little_order_reversed_on_every_pair_of_bytes() {
+    const SEED: u64 = 0x5eed_0019;
+    let mut campaign = Campaign::new(SEED, 1 << 16);
+    for (number, mut random) in campaign.by_ref() {
+        let bytes = [(number >> 8) as u8, number as u8];
+        let value = check_reversed_reading(&bytes, &mut random);
+        check_reversed_writing(2, value, &mut random);
+    }
+    println!("one order against the other, two bytes: {campaign}, {} agreed", campaign.drawn());
+}
+
+#[test]
+fn big_order_is_little_order_reversed_with_each_byte_at_each_place() {
+    const SEED: u64 = 0x5eed_001a;
+    let mut campaign = Campaign::new(SEED, 256);
+    let mut agreed = 0;
+    for (number, mut random) in campaign.by_ref() {
+        let byte = number as u8;
+        for size in SIZES {
+            for place in 0..size {
+                for other in [0, 0xff] {
+                    let mut bytes = vec![other; size as usize];
+                    bytes[place as usize] = byte;
+                    let value = check_reversed_reading(&bytes, &mut random);
+                    check_reversed_writing(size, value, &mut random);
+                    agreed += 1;
+                }
+            }
+        }
+    }
+    println!("one order against the other, each byte at each place: {campaign}, {agreed} agreed");
+}
+
+#[test]
+fn both_orders_are_answered_alike() {
+    const SEED: u64 = 0x5eed_001b;
+    let mut campaign = Campaign::new(SEED, RANDOM_PAIRS);
+    let mut gathered = Tally::default();
+    let mut scattered = Tally::default();
+    for (_, mut random) in campaign.by_ref() {
+        let len = random.below(41);
+        let place = random_place(len, &mut random);
+        let result_len = random.below(3);
+        let value = random_value(place.size, &mut random);
+        let mut buffer = GuardedBuffer::random(len as usize, &mut random);
+        let [little, big] = GOOD_ORDERS.map(|order| {
+            let place = Place { order, ..place };
+            let read = check_gather(&place, &buffer, result_len);
+            (read, check_scatter(&place, &mut buffer, value))
+        });
+        assert_eq!(little, big, "{place:#x?}, value {value:#x}");
+        gathered.count(big.0);
+        scattered.count(big.1);
+    }
+    println!("gather, one order against the other: {campaign}, {gathered}");
+    println!("scatter, one order against the other: {campaign}, {scattered}");
+    if campaign.is_whole() {
+        gathered.assert_numbers(&[0, 11, 22, 24]);
+        scattered.assert_numbers(&[0, 22, 24]);
+    }
 }
 
 #[test]
