@@ -33,11 +33,12 @@ extern "C" {
 
 /* The version of this header and of the library that it is for: that of the file VERSION. The first number
  * grows where a call changes, in its parameters or in the words that it takes: a program must then be checked
- * and compiled again, since the linker does not notice. The second grows where a call is added. */
-#define UNDRELVOA_VERSION "3.1.0"
+ * and compiled again, since the linker does not notice. The second grows where a call is added, the third where
+ * no call changes. */
+#define UNDRELVOA_VERSION "3.1.1"
 #define UNDRELVOA_VERSION_MAJOR 3
 #define UNDRELVOA_VERSION_MINOR 1
-#define UNDRELVOA_VERSION_PATCH 0
+#define UNDRELVOA_VERSION_PATCH 1
 
 /* Limits. The verdict and the runs refuse what is beyond them. */
 #define UNDRELVOA_MAX_OPERATIONS 4096   /* operations of a list */

@@ -13,6 +13,7 @@ pub mod Resume
 pub mod Order
 pub mod Limits
 pub mod Marked
+pub mod ByteOrder
 pub mod Moves
 pub mod Conditions
 pub mod Wordsizes

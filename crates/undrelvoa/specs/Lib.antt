@@ -1,3 +1,4 @@
 pub mod Buffers
 pub mod Answers
 pub mod Calls
+pub mod ByteOrder

@@ -31,14 +31,14 @@ significance-twice false n i h = refl
 significance-twice true n i h = omega arith
 
 -- a value, summed from the lowest weight on
-by-weight : (big : Bool) (n : ℕ) (d : ℕ → ℕ)
+pub by-weight : (big : Bool) (n : ℕ) (d : ℕ → ℕ)
     → sum n (λ i. d i * 256 ^ significance big n i) ≡ sum n (λ k. d (significance big n k) * 256 ^ k)
 unfolding significance
 by-weight false n d = refl
 by-weight true n d =
-    sum-reverse n (λ i. d i * 256 ^ (n - 1 - i))
-    ∙ sum-cong n (λ i. d (n - 1 - i) * 256 ^ (n - 1 - (n - 1 - i))) (λ k. d (n - 1 - k) * 256 ^ k)
-    (λ i h. let e : n - 1 - (n - 1 - i) ≡ i = omega arith in rw e)
+    sum-reverse n (λ i. d i * 256 ^ significance true n i)
+    ∙ sum-cong n (λ i. d (n - 1 - i) * 256 ^ significance true n (n - 1 - i)) (λ k. d (significance true n k) * 256 ^ k)
+    (λ i h. let weight : significance true n (n - 1 - i) ≡ i = omega arith in rw weight)
 
 -- ---- parts
 

@@ -1,0 +1,11 @@
+-- Bytes that move by significance go by the same rule: big order reverses them, little order leaves them as they lie.
+use Prim.Native.Nat.{ℕ}
+use mathlib.Core.Bool.{true, false}
+use mathlib.Core.List.{List, reverse}
+use mathlib.Core.Path.{_≡_}
+use Rattle.machine.specs.Memory.{ordered}
+
+-- What is proved.
+pub record OrderedReverses : Type 0 where
+  pub little : (bs : List ℕ) → ordered false bs ≡ bs
+  pub big : (bs : List ℕ) → ordered true bs ≡ reverse bs
