@@ -1,4 +1,4 @@
--- Ordering bytes by significance reverses them in big order, and in little order changes nothing.
+-- Ordering bytes by significance reverses them in big order and changes nothing in little order.
 use Prim.Native.Nat.{ℕ, _-_}
 use mathlib.Core.Bool.{true, false}
 use mathlib.Core.List.{List, reverse}

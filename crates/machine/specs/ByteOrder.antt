@@ -1,4 +1,5 @@
--- Bytes that move by significance go by the same rule: big order reverses them, little order leaves them as they lie.
+-- Bytes that are moved go by the same rule: taking them from memory order to order by significance, or back, reverses them in big order and
+-- leaves them as they lie in little order.
 use Prim.Native.Nat.{ℕ}
 use mathlib.Core.Bool.{true, false}
 use mathlib.Core.List.{List, reverse}

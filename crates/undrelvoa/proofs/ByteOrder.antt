@@ -33,13 +33,13 @@ scattered : {order offset size value : ℕ} {bytes bytes′ : List ℕ} → Scat
 scattered {order} {offset} {size} {value} {bytes} c =
     record { requires = scatter-passed order (length bytes) offset size value (sym (c .ensuresAnswer)); ensures = c .ensuresBuffer }
 
-gather-answers : (bytes offset size room : ℕ) → gatherFault 1 bytes offset size room ≡ gatherFault 0 bytes offset size room
+gather-answers : (byteCount offset size room : ℕ) → gatherFault 1 byteCount offset size room ≡ gatherFault 0 byteCount offset size room
 unfolding gatherFault
-gather-answers bytes offset size room = refl
+gather-answers byteCount offset size room = refl
 
-scatter-answers : (bytes offset size value : ℕ) → scatterFault 1 bytes offset size value ≡ scatterFault 0 bytes offset size value
+scatter-answers : (byteCount offset size value : ℕ) → scatterFault 1 byteCount offset size value ≡ scatterFault 0 byteCount offset size value
 unfolding scatterFault
-scatter-answers bytes offset size value = refl
+scatter-answers byteCount offset size value = refl
 
 pub big-is-little-reversed-c : BigIsLittleReversedC
 big-is-little-reversed-c =

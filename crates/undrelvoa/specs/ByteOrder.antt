@@ -22,14 +22,13 @@ pub record ScatterCallC (order : ℕ) (bytes : List ℕ) (offset size value : �
 -- What is proved. Order 1 is big, 0 is little.
 pub record BigIsLittleReversedC : Type 0 where
   -- Both orders are answered alike.
-  pub gatherAnswers : (bytes offset size room : ℕ) → gatherFault 1 bytes offset size room ≡ gatherFault 0 bytes offset size room
-  pub scatterAnswers : (bytes offset size value : ℕ) → scatterFault 1 bytes offset size value ≡ scatterFault 0 bytes offset size value
-  -- Where the answer is 0, the first word of the result is the value: of a part in big order it is that of the reversed bytes, wherever they
-  -- lie, in little order.
-  pub gathers : {bytes reversed out out′ result result′ : List ℕ} {offset offset′ size : ℕ}
-      → GatherCallC 1 bytes offset size out out′ 0 → GatherCallC 0 reversed offset′ size result result′ 0
-      → part reversed offset′ size ≡ reverse (part bytes offset size) → getD out′ 0 0 ≡ getD result′ 0 0
-  -- What a value leaves in big order is what it leaves in little order, wherever that is, reversed.
+  pub gatherAnswers : (byteCount offset size room : ℕ) → gatherFault 1 byteCount offset size room ≡ gatherFault 0 byteCount offset size room
+  pub scatterAnswers : (byteCount offset size value : ℕ) → scatterFault 1 byteCount offset size value ≡ scatterFault 0 byteCount offset size value
+  -- Where both answer 0, the value written for a part in big order is that written for the reversed bytes, wherever they lie, in little order.
+  pub gathers : {bytes reversed bigOut bigOut′ littleOut littleOut′ : List ℕ} {offset offset′ size : ℕ}
+      → GatherCallC 1 bytes offset size bigOut bigOut′ 0 → GatherCallC 0 reversed offset′ size littleOut littleOut′ 0
+      → part reversed offset′ size ≡ reverse (part bytes offset size) → getD bigOut′ 0 0 ≡ getD littleOut′ 0 0
+  -- Where both answer 0, what a value leaves in big order is what it leaves in little order, wherever that is, reversed.
   pub scatters : {big big′ little little′ : List ℕ} {offset offset′ size value : ℕ}
       → ScatterCallC 1 big offset size value big′ 0 → ScatterCallC 0 little offset′ size value little′ 0
       → part big′ offset size ≡ reverse (part little′ offset′ size)

@@ -19,7 +19,7 @@ pub record ScatterCall (big : Bool) (bytes : List ℕ) (at size value : ℕ) (by
   pub requires : (size ≤ 8) × (at + size ≤ length bytes)
   pub ensures : bytes′ ≡ sets bytes at (bytesOf big size value)
 
--- What is proved, for lists of any length and so for 1 to 8 bytes.
+-- What is proved: of lists of any length, and so of 1 to 8 bytes; of calls, for every size that they take.
 pub record BigIsLittleReversed : Type 0 where
   -- Little order: the byte at place i counts 256^i.
   pub littleReads : (bs : List ℕ) → valueOf false bs ≡ sum (length bs) (λ i. getD bs i 0 * 256 ^ i)

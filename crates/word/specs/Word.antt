@@ -23,7 +23,7 @@ unfoldable pub significance : (big : Bool) (n i : ℕ) → ℕ
 significance false n i = i
 significance true n i = n - 1 - i
 
--- The value of bytes, in the order in which they lie in memory: each byte times its weight, summed.
+-- The value of bytes, in the order in which they lie in memory: each byte times 256 to that power, summed.
 unfoldable pub valueOf : (big : Bool) → List ℕ → ℕ
 valueOf big bs = sum (length bs) (λ i. getD bs i 0 * 256 ^ significance big (length bs) i)
 
