@@ -5,8 +5,7 @@ use mathlib.Core.List.{List, reverse}
 use mathlib.Core.Path.{_≡_, refl, sym}
 use lib.ListN.{length, getD, length-reverse}
 use Rattle.word.specs.Word.{significance}
-use Rattle.word.proofs.Sums.{tabulate-is}
-use Rattle.word.proofs.ByteOrder.{reversed-at}
+use Rattle.word.proofs.Sums.{tabulate-is, reversed-at}
 use Rattle.machine.specs.Memory.{ordered}
 use Rattle.machine.specs.ByteOrder.{OrderedReverses}
 

@@ -1,43 +1,23 @@
 -- Big order is little order reversed: a byte counts in big order what it counts in little order in the reversed list.
 use mathlib.Core.Path.{_≡_, refl, sym, ap, _∙_}
 use mathlib.Core.Bool.{Bool, true, false}
-use mathlib.Core.List.{List, [], _∷_, _++_, reverse, reverse-cons}
-use Prim.Native.Nat.{ℕ, suc, _-_, _*_, _/_, _%_, _^_, _<_}
+use mathlib.Core.List.{List, reverse}
+use Prim.Native.Nat.{ℕ, _-_, _*_, _/_, _%_, _^_, _<_}
 use native.Mathlib.Omega.{arith}
 use contract.Lifetimes.{Lfts}
 use denote.Ref.{now}
 use denote.Triple.Clauses.{AtExit}
-use borrow.Author.Tests.{ltb-true, ltb-false}
 use borrow.Fn.Kinds.{Dens, resT, endedOf}
-use lib.Dec.{ltb}
-use lib.ListN.{length, getD, length-reverse, List·getD-append}
-use lib.Seq.{getD-append-seam}
+use lib.ListN.{length, getD, length-reverse}
 use Rattle.word.specs.Sum.{sum, tabulate, digit}
 use Rattle.word.specs.Word.{part, significance, valueOf, bytesOf}
 use Rattle.word.specs.ByteOrder.{GatherCall, ScatterCall, BigIsLittleReversed}
-use Rattle.word.proofs.Sums.{sum-cong, tabulate-is}
+use Rattle.word.proofs.Sums.{sum-cong, tabulate-is, reversed-at}
 use Rattle.word.proofs.Laws.{by-weight, bytes-length, bytes-at, stored-part}
 use Rattle.word.proofs.bytes.gather.Kinds as gather
 use Rattle.word.proofs.bytes.gather.Reads as gather-contract
 use Rattle.word.proofs.bytes.scatter.Kinds as scatter
 use Rattle.word.proofs.bytes.scatter.Reads as scatter-contract
-
--- a reversed list, entry by entry
-pub reversed-at : (l : List ℕ) (i : ℕ) → i < length l → getD (reverse l) i 0 ≡ getD l (length l - 1 - i) 0
-reversed-at [] i h = absurd (let z : ⊥ = omega arith in z)
-reversed-at (x ∷ l) i h = ap (λ (r : List ℕ). getD r i 0) (reverse-cons x l) ∙ by (ltb i (length l)) refl (reversed-at l i)
-  where
-    by : (t : Bool) → ltb i (length l) ≡ t → (i < length l → getD (reverse l) i 0 ≡ getD l (length l - 1 - i) 0)
-        → getD (reverse l ++ (x ∷ [])) i 0 ≡ getD (x ∷ l) (length (x ∷ l) - 1 - i) 0
-    by true e ih =
-        let k : i < length l = ltb-true i (length l) e in
-        let inside : i < length (reverse l) = rw (length-reverse l) k in
-        let next : suc (length l) - 1 - i ≡ suc (length l - 1 - i) = omega arith in
-        rw next (List·getD-append (reverse l) (x ∷ []) 0 i inside ∙ ih k)
-    by false e ih =
-        let last : i ≡ length (reverse l) = omega (arith, ltb-false i (length l) e, length-reverse l) in
-        let first : suc (length l) - 1 - i ≡ 0 = omega (arith, ltb-false i (length l) e) in
-        rw first (ap (λ (k : ℕ). getD (reverse l ++ (x ∷ [])) k 0) last ∙ getD-append-seam (reverse l) x [] 0)
 
 little-reads : (bs : List ℕ) → valueOf false bs ≡ sum (length bs) (λ i. getD bs i 0 * 256 ^ i)
 unfolding valueOf significance

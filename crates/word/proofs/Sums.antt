@@ -1,11 +1,14 @@
--- Laws of sums and tabulated lists.
+-- Laws of sums and of tabulated and reversed lists.
 use mathlib.Core.Path.{_≡_, refl, sym, ap, ap₂, _∙_}
-use mathlib.Core.List.{List}
+use mathlib.Core.Bool.{Bool, true, false}
+use mathlib.Core.List.{List, [], _∷_, _++_, reverse, reverse-cons}
 use Prim.Native.Nat.{ℕ, zero, suc, _+_, _-_, _*_, _≤_, _<_}
 use native.Mathlib.Nat.{zero-mul, add-mul}
 use native.Mathlib.Omega.{arith}
-use lib.ListN.{length, getD, List·getD-eq-default}
-use lib.Seq.{ext-getD}
+use borrow.Author.Tests.{ltb-true, ltb-false}
+use lib.Dec.{ltb}
+use lib.ListN.{length, getD, length-reverse, List·getD-eq-default, List·getD-append}
+use lib.Seq.{ext-getD, getD-append-seam}
 use Rattle.word.specs.Sum.{sum, tabulate}
 
 pub sum-cong : (n : ℕ) (f g : ℕ → ℕ) → ((i : ℕ) → i < n → f i ≡ g i) → sum n f ≡ sum n g
@@ -58,3 +61,20 @@ pub tabulate-is : (n : ℕ) (f : ℕ → ℕ) (l : List ℕ) → length l ≡ n 
 tabulate-is n f l e h =
     ext-getD 0 (tabulate n f) l (tabulate-length n f ∙ sym e)
     (λ i k. let b : i < n = omega (arith, tabulate-length n f) in tabulate-at n f i b ∙ h i b)
+
+-- a reversed list, entry by entry
+pub reversed-at : (l : List ℕ) (i : ℕ) → i < length l → getD (reverse l) i 0 ≡ getD l (length l - 1 - i) 0
+reversed-at [] i h = absurd (let z : ⊥ = omega arith in z)
+reversed-at (x ∷ l) i h = ap (λ (r : List ℕ). getD r i 0) (reverse-cons x l) ∙ by (ltb i (length l)) refl (reversed-at l i)
+  where
+    by : (t : Bool) → ltb i (length l) ≡ t → (i < length l → getD (reverse l) i 0 ≡ getD l (length l - 1 - i) 0)
+        → getD (reverse l ++ (x ∷ [])) i 0 ≡ getD (x ∷ l) (length (x ∷ l) - 1 - i) 0
+    by true e ih =
+        let k : i < length l = ltb-true i (length l) e in
+        let inside : i < length (reverse l) = rw (length-reverse l) k in
+        let next : suc (length l) - 1 - i ≡ suc (length l - 1 - i) = omega arith in
+        rw next (List·getD-append (reverse l) (x ∷ []) 0 i inside ∙ ih k)
+    by false e ih =
+        let last : i ≡ length (reverse l) = omega (arith, ltb-false i (length l) e, length-reverse l) in
+        let first : suc (length l) - 1 - i ≡ 0 = omega (arith, ltb-false i (length l) e) in
+        rw first (ap (λ (k : ℕ). getD (reverse l ++ (x ∷ [])) k 0) last ∙ getD-append-seam (reverse l) x [] 0)
