@@ -81,44 +81,47 @@ written-labels m v xs h e = by (eqb (v .space) 2) (eqb (v .space) 3) (eqb (v .sp
     by false false true = rw (all-sets (m .ram) (v .offset) xs (b .1) e, a .0, a .1)
     by false false false = h
 
--- ---- an operation writes no more log words than there is room for
+-- ---- an operation writes at most one log word, and none without room for it
 
-data Fits (room : ℕ) : Decision → Type 0 where
+pub data Fits (room : ℕ) : Decision → Type 0 where
   stops : {e : Stop} → Fits room (Decision.stop e)
-  nexts : {words : List ℕ} {i : ℕ} → length words ≤ room → Fits room (Decision.next words i)
-  exited : {words : List ℕ} {d : ℕ} → length words ≤ room → Fits room (Decision.exit words d)
+  nexts : {words : List ℕ} {i : ℕ} → length words ≤ room → length words ≤ 1 → Fits room (Decision.next words i)
+  exited : {words : List ℕ} {d : ℕ} → length words ≤ room → length words ≤ 1 → Fits room (Decision.exit words d)
 
-logging-fits : (room word : ℕ) (d : List ℕ → Decision) → ((words : List ℕ) → length words ≤ room → Fits room (d words)) → Fits room (logging room word d)
+logging-fits : (room word : ℕ) (d : List ℕ → Decision) → ((words : List ℕ) → length words ≤ room → length words ≤ 1 → Fits room (d words)) → Fits room (logging room word d)
 unfolding logging
 logging-fits room word d h = by (eqb room 0) refl
   where
     by : (t : Bool) → eqb room 0 ≡ t → Fits room (cond t (Decision.stop Stop.logFull) (d (word ∷ [])))
     by true t = stops
-    by false t = h (word ∷ []) (let n : room ≡ 0 → ⊥ = eqb-false room 0 t in omega arith)
+    by false t = h (word ∷ []) (let n : room ≡ 0 → ⊥ = eqb-false room 0 t in omega arith) (omega arith)
 
-goto-fits : (room i : ℕ) (v : Varnode) (words : List ℕ) → length words ≤ room → Fits room (goTo i v words)
+goto-fits : (room i : ℕ) (v : Varnode) (words : List ℕ) → length words ≤ room → length words ≤ 1 → Fits room (goTo i v words)
 unfolding goTo
-goto-fits room i v words h = either (Fits room) (eqb (v .space) 1) _ _ (nexts h) (exited h)
+goto-fits room i v words h s = either (Fits room) (eqb (v .space) 1) _ _ (nexts h s) (exited h s)
 
 access-fits : (i extent room offset size : ℕ) → Fits room (access i extent room offset size)
 unfolding access
-access-fits i extent room offset size = either (Fits room) (leb (offset + size) extent) _ _ (logging-fits room _ _ (λ words h. nexts h)) stops
+access-fits i extent room offset size = either (Fits room) (leb (offset + size) extent) _ _ (logging-fits room _ _ (λ words h s. nexts h s)) stops
+
+none : {room i : ℕ} → Fits room (Decision.next [] i)
+none = nexts {words = []} (omega arith) (omega arith)
 
 checked-fits : (k : Kind) (op : Operation) (i extent room x : ℕ) → Fits room (checked k op i extent room x)
 unfolding checked
-checked-fits Kind.copy op i extent room x = nexts {words = []} (omega arith)
+checked-fits Kind.copy op i extent room x = none
 checked-fits Kind.load op i extent room x = access-fits i extent room x _
 checked-fits Kind.store op i extent room x = access-fits i extent room x _
-checked-fits Kind.branch op i extent room x = goto-fits room i (op .input0) [] (omega arith)
+checked-fits Kind.branch op i extent room x = goto-fits room i (op .input0) [] (omega arith) (omega arith)
 checked-fits Kind.cbranch op i extent room x =
-    either (Fits room) (eqb x 0) _ _ (logging-fits room _ _ (λ words h. nexts h)) (logging-fits room _ _ (goto-fits room i (op .input0)))
-checked-fits Kind.jump op i extent room x = exited {words = []} (omega arith)
-checked-fits Kind.piece op i extent room x = nexts {words = []} (omega arith)
-checked-fits Kind.subpiece op i extent room x = nexts {words = []} (omega arith)
-checked-fits Kind.divide op i extent room x = either (Fits room) (eqb x 0) _ _ stops (nexts {words = []} (omega arith))
-checked-fits Kind.compute op i extent room x = nexts {words = []} (omega arith)
+    either (Fits room) (eqb x 0) _ _ (logging-fits room _ _ (λ words h s. nexts h s)) (logging-fits room _ _ (goto-fits room i (op .input0)))
+checked-fits Kind.jump op i extent room x = exited {words = []} (omega arith) (omega arith)
+checked-fits Kind.piece op i extent room x = none
+checked-fits Kind.subpiece op i extent room x = none
+checked-fits Kind.divide op i extent room x = either (Fits room) (eqb x 0) _ _ stops none
+checked-fits Kind.compute op i extent room x = none
 
-decided-fits : (t : Bool) (k : Kind) (op : Operation) (i extent room x : ℕ) → Fits room (decided t k op i extent room x)
+pub decided-fits : (t : Bool) (k : Kind) (op : Operation) (i extent room x : ℕ) → Fits room (decided t k op i extent room x)
 unfolding decided
 decided-fits t k op i extent room x = either (Fits room) t _ _ stops (checked-fits k op i extent room x)
 
@@ -145,9 +148,9 @@ module _ (words : ℕ) (spaces : Lengths) (marks : Memory) where
       → Kept words spaces marks at labels m → KeptStep (applyDecision program k op at labels m x d)
   unfolding applyDecision ended labelsWritten
   applied-kept program k op at labels m x stops h = halts h
-  applied-kept program k op at labels m x (exited l) h =
+  applied-kept program k op at labels m x (exited l s) h =
       halts (record { log = advanced-log at _ _ l (h .log); memory = h .memory; lengths = h .lengths; values = h .values })
-  applied-kept program k op at labels m x (nexts l) h =
+  applied-kept program k op at labels m x (nexts l s) h =
       goes (record {
         log = advanced-log at _ _ l (h .log);
         memory = written-lengths m (target k op x) _ ∙ h .memory;

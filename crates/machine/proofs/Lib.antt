@@ -8,6 +8,7 @@ pub mod Noninterference
 pub mod Budget
 pub mod Kept
 pub mod Counts
+pub mod Words
 pub mod Runs
 pub mod Resume
 pub mod Order

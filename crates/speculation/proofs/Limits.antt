@@ -1,5 +1,6 @@
 -- Refusals, counts, log words and the journal.
-use Prim.Native.Nat.{ℕ, _-_, _≤_}
+use Prim.Native.Nat.{ℕ, suc, _+_, _*_, _-_, _≤_}
+use native.Mathlib.Numerals.{add-one}
 use native.Mathlib.Omega.{arith}
 use mathlib.Core.Bool.{Bool, true, false, cond, _&&_}
 use mathlib.Core.List.{List}
@@ -17,9 +18,10 @@ use Rattle.machine.specs.Run.{Position, Ended, Stepped, ended}
 use Rattle.machine.specs.Calls.{sameLengths, labelsInRange, outcomeOf, starting}
 use Rattle.machine.specs.Limits.{Unchanged, Limited, afterOperations}
 use Rattle.machine.proofs.Cases.{either-equal}
-use Rattle.machine.proofs.Refusals.{none, known, Refuses, early, late}
+use Rattle.machine.proofs.Refusals.{none, known, Refuses, early, late, refusal-report}
 use Rattle.machine.proofs.Order.{refusals-in-order}
 use Rattle.machine.proofs.Counts.{Ran, not-refused, stopped-operation, counted-operation}
+use Rattle.machine.proofs.Words.{run-writes}
 use Rattle.machine.proofs.Limits.{ran-limited, refused-limited, refused-unchanged, run-after}
 use Rattle.machine.proofs.Pinned.{lent-word}
 use Rattle.machine.proofs.Runs.{run-laws, started-kept}
@@ -27,7 +29,7 @@ use Rattle.speculation.specs.Window.{ahead, speculated}
 use Rattle.speculation.specs.Speculation.{mostAhead, journalWords, speculativeRefusal, Speculation, speculation, speculate, journalAfter, calledAhead, speculativeRun}
 use Rattle.speculation.specs.Limits.{AtTheirPlace, Cleared, Counted, Answer, SpeculativeLimits}
 use Rattle.speculation.proofs.Accepted.{ahead-refuses, ahead-refusal, ahead-accepted}
-use Rattle.speculation.proofs.Runs.{speculate-repeats, speculated-counts, speculated-laws, speculate-laws}
+use Rattle.speculation.proofs.Runs.{speculate-repeats, speculated-counts, speculated-writes, speculated-laws, speculate-laws}
 
 -- ---- refusals
 
@@ -119,6 +121,14 @@ module _ (settings : Settings) (list : List ℕ) (start budget window : ℕ) (lo
       ran-limited log labels m (laws .counts budget from labels m) (started-kept laws start budget log labels m .log)
   call-limited (refused r l h a) = refused-limited log labels m r budget
 
+  call-words : {s : Speculation} → Call s → s .outcome .report .logged ≤ budget * (window + 1)
+  unfolding outcomeOf starting
+  call-words (ran j) =
+      let program = programOf settings list in
+      let l = run-writes (speculate-repeats program window) (suc window) (speculated-writes window program) budget from labels m in
+      rw (add-one window) (omega (arith, l))
+  call-words (refused r l h a) = omega (arith, refusal-report r .1)
+
 -- ---- operations
 
 counted-operations : (program : Program) (window budget : ℕ) (at : Position) (labels m : Memory)
@@ -145,6 +155,7 @@ speculative-limits = record {
       call-cleared settings list start budget window log journal labels m (call settings list start budget window log journal labels m) (λ x y. omega (arith, h, y));
   endings = λ settings list start budget window log journal labels m. call-answer settings list start budget window log journal labels m (call settings list start budget window log journal labels m);
   limited = λ settings list start budget window log journal labels m. call-limited settings list start budget window log journal labels m (call settings list start budget window log journal labels m);
+  words = λ settings list start budget window log journal labels m. call-words settings list start budget window log journal labels m (call settings list start budget window log journal labels m);
   aheadLimited = ahead-limited;
   counted = λ program window at at′ labels m labels′ m′. counted-operation (speculated-counts program window at labels m) at′ labels′ m′;
   stoppedOperation = λ program window at labels m r e h. stopped-operation (speculated-counts program window at labels m) r e (λ z. omega (arith, h, z));

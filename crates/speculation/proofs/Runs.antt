@@ -1,5 +1,5 @@
 -- The laws of the speculative run, by those of one operation with its window.
-use Prim.Native.Nat.{ℕ, _+_}
+use Prim.Native.Nat.{ℕ, suc, _+_, _≤_}
 use native.Mathlib.Omega.{arith}
 use mathlib.Core.Bool.{Bool, true, false, cond, _&&_}
 use mathlib.Core.List.{List, [], _∷_, append-assoc}
@@ -15,6 +15,7 @@ use Rattle.machine.proofs.Cases.{either₂}
 use Rattle.machine.proofs.Budget.{Repeats, Ends, stepped-ends, Later, later, laterEnded, stepped-later}
 use Rattle.machine.proofs.Kept.{Kept, KeptStep, stepped-kept}
 use Rattle.machine.proofs.Counts.{Stopping, Counts, Stays, stepped-counts}
+use Rattle.machine.proofs.Words.{Writes, stepped-writes}
 use Rattle.machine.proofs.Runs.{Runs, Steps, repeated-laws}
 use Rattle.speculation.specs.Window.{Way, Window, marked, withWords, uncounted, rightWay, reached, afterWindow, tried, passed, speculated}
 use Rattle.speculation.specs.Speculation.{speculate}
@@ -100,13 +101,43 @@ module _ (words : ℕ) (spaces : Lengths) (marks : Memory) where
   speculated-kept program window at labels m k =
       let a = stepped program at labels m in
       let right = stepped-kept words spaces marks program at labels m k in
-      speculated-by program window labels m (KeptStep words spaces marks) at right (λ w h. right-kept w a h right)
+      speculated-by program window labels m (KeptStep words spaces marks) at right (λ w h. right-kept w a (h .room) right)
       (λ w h e s. KeptStep.halts (record {
-        log = words-kept w (uncounted at (reached a)) h (reached-kept a right);
+        log = words-kept w (uncounted at (reached a)) (h .room) (reached-kept a right);
         memory = k .memory;
         lengths = k .lengths;
         values = k .values;
       }))
+
+-- ---- how many log words it writes
+
+module _ (window : ℕ) where
+  words-written : (w : Ended) (at next : Position) → length (w .position .log) ≤ window → length (next .log) ≤ length (at .log) + 1
+      → length (withWords w next .log) ≤ length (at .log) + suc window
+  unfolding withWords
+  words-written w at next h l = rw (length-append (next .log) (marked (w .position .log)), marked-length (w .position .log)) (omega (arith, h, l))
+
+  right-writes : (w : Ended) → length (w .position .log) ≤ window → (at : Position) {a : Stepped} → Writes 1 at a → Writes (suc window) at (rightWay w a)
+  unfolding rightWay ended
+  right-writes w h at (Writes.halts {r} l) = Writes.halts (words-written w at (r .position) h l)
+  right-writes w h at (Writes.goes {next} l) = Writes.goes (words-written w at next h l)
+
+  reached-writes : {at : Position} {a : Stepped} → Writes 1 at a → length (reached a .log) ≤ length (at .log) + 1
+  unfolding reached
+  reached-writes (Writes.halts l) = l
+  reached-writes (Writes.goes l) = l
+
+  alone-writes : {at : Position} {a : Stepped} → Writes 1 at a → Writes (suc window) at a
+  alone-writes (Writes.halts {r} l) = Writes.halts {r = r} (omega (arith, l))
+  alone-writes (Writes.goes {next} {ls} {n} l) = Writes.goes {next = next} {ls = ls} {n = n} (omega (arith, l))
+
+  -- its own, and at most W of its window
+  pub speculated-writes : (program : Program) (at : Position) (labels m : Memory) → Writes (suc window) at (speculated program window at labels m)
+  unfolding ended uncounted
+  speculated-writes program at labels m =
+      let right = stepped-writes program at labels m in
+      speculated-by program window labels m (Writes (suc window) at) at (alone-writes right) (λ w h. right-writes w (h .most) at right)
+      (λ w h e s. Writes.halts (words-written w at (uncounted at (reached (stepped program at labels m))) (h .most) (reached-writes right)))
 
 -- ---- count and log are carried along
 

@@ -1,5 +1,5 @@
 -- Refusals, counts, log words and the journal of the speculative run.
-use Prim.Native.Nat.{ℕ, suc, _*_, _-_, _≤_, _<_}
+use Prim.Native.Nat.{ℕ, suc, _+_, _*_, _-_, _≤_, _<_}
 use mathlib.Core.Bool.{Bool, true, false}
 use mathlib.Core.List.{List}
 use mathlib.Core.Path.{_≡_}
@@ -87,6 +87,9 @@ pub record SpeculativeLimits : Type 0 where
   -- Operations of windows spend no budget.
   pub limited : (settings : Settings) (list : List ℕ) (start budget window : ℕ) (log journal : List ℕ) (labels m : Memory)
       → Limited budget log (speculativeRun settings list start budget window log journal labels m .outcome)
+  -- A run writes at most W + 1 log words for each operation of its budget.
+  pub words : (settings : Settings) (list : List ℕ) (start budget window : ℕ) (log journal : List ℕ) (labels m : Memory)
+      → speculativeRun settings list start budget window log journal labels m .outcome .report .logged ≤ budget * (window + 1)
   -- A window executes at most W operations. An operation has at most one window, so that a run executes at most W + 1 times its budget.
   pub aheadLimited : (program : Program) (window i room : ℕ) (labels m : Memory) → ahead program window i room labels m .position .executed ≤ window
   -- An operation that goes on is counted once, whatever its window did.

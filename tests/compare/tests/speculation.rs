@@ -18,8 +18,8 @@ use reference::answers::{LentWords, RunCall};
 use reference::fault::{HEAD, LABEL, LEAK_AHEAD, LENGTH, LOG, SETTING, START};
 use reference::machine::State;
 use reference::memory::{Spaces, SECRET};
-use reference::run::Program;
-use reference::speculative::{Closing, Window, LARGEST_WINDOW, WINDOW_MARK};
+use reference::run::{Program, BUDGET};
+use reference::speculative::{self, Closing, Window, LARGEST_WINDOW, WINDOW_MARK};
 use reference::varnode::{Wordsizes, RAM, REGISTER, UNIQUE};
 use reference::verdict::{Settings, END};
 
@@ -115,11 +115,17 @@ impl Seen {
         let mut after = before.clone();
         let ran_before = self.windows.of(Event::WindowRuns);
         let mut watch = Watch::new(&mut self.windows, before);
-        let Some(report) = check_speculation(&mut after, lent, |event| watch.hear(event)) else {
+        let mut executed = 0;
+        let observer = |event: speculative::Event| {
+            executed += u64::from(is_executed(&event));
+            watch.hear(event);
+        };
+        let Some(report) = check_speculation(&mut after, lent, observer) else {
             self.refused_words += 1;
             return;
         };
         watch.finish(report[0]);
+        assert_bounds(before, executed, report[3]);
         self.tally.count(report[0]);
         if is_in_range(&before.window) && ![LOG, LEAK_AHEAD].contains(&report[0]) {
             assert_is_labelled_run(before, &after, &report);
@@ -162,6 +168,22 @@ impl fmt::Display for Seen {
 
 fn is_in_range(window: &Window) -> bool {
     window.operations <= LARGEST_WINDOW && window.journal.len() >= window.journal_words()
+}
+
+/// Whether an operation was executed, of the run itself or of a window.
+fn is_executed(event: &speculative::Event) -> bool {
+    use speculative::Event::{Ahead, Counted};
+    matches!(event, Ahead { .. } | Counted { .. })
+}
+
+/// Fails where a run executed more than W + 1 operations for each of its budget, those of windows included, or
+/// wrote more log words.
+fn assert_bounds(run: &Speculation, executed: u64, words: u64) {
+    let each = u128::from(run.window.operations) + 1;
+    let most = u128::from(run.case.call.budget) * each;
+    let [executed, words] = [executed, words].map(u128::from);
+    let holds = executed <= most && words <= most;
+    assert!(holds, "{executed} operations and {words} log words, at most {most} each, by\n{run}");
 }
 
 /// Whether an ending is one of those that come before anything runs.
@@ -402,6 +424,23 @@ fn a_leak_at_every_operation_of_every_window() {
         }
     }
     println!("speculative run, a leak at every operation of every window: {tally}");
+}
+
+#[test]
+fn every_operation_opens_a_whole_window_of_log_words() {
+    let mut agreed = 0;
+    // Each goes to itself; the other way of the first is the second.
+    let list = [cbranch(0); 2];
+    for window in 0..=LARGEST_WINDOW {
+        for budget in 0..=9 {
+            let words = u64::from(budget) * (window + 1);
+            let mut run = speculation(&list, window, words as usize + 1);
+            run.case.call.budget = budget;
+            assert_eq!(result(run).0, [BUDGET, 0, budget.into(), words, 0]);
+            agreed += 1;
+        }
+    }
+    println!("speculative run, W + 1 log words for each operation: {agreed} agreed");
 }
 
 #[test]
