@@ -1,79 +1,11 @@
 //! The proved interpreter, through its C interface.
 
-// As in include/undrelvoa.h.
-extern "C" {
-    fn undrelvoa_run(
-        settings: *const u64,
-        settings_len: usize,
-        list: *const u64,
-        list_len: usize,
-        start: u64,
-        budget: u32,
-        unique: *mut u8,
-        unique_len: usize,
-        register_space: *mut u8,
-        register_len: usize,
-        ram: *mut u8,
-        ram_len: usize,
-        log: *mut u64,
-        log_len: usize,
-        report: *mut u64,
-        report_len: usize,
-    ) -> u64;
+// Not all of its calls are timed.
+#[allow(dead_code)]
+#[path = "../../include/undrelvoa.rs"]
+mod calls;
 
-    fn undrelvoa_labelled_run(
-        settings: *const u64,
-        settings_len: usize,
-        list: *const u64,
-        list_len: usize,
-        start: u64,
-        budget: u32,
-        unique: *mut u8,
-        unique_len: usize,
-        register_space: *mut u8,
-        register_len: usize,
-        ram: *mut u8,
-        ram_len: usize,
-        unique_labels: *mut u8,
-        unique_labels_len: usize,
-        register_labels: *mut u8,
-        register_labels_len: usize,
-        ram_labels: *mut u8,
-        ram_labels_len: usize,
-        log: *mut u64,
-        log_len: usize,
-        report: *mut u64,
-        report_len: usize,
-    ) -> u64;
-
-    fn undrelvoa_speculative_run(
-        settings: *const u64,
-        settings_len: usize,
-        list: *const u64,
-        list_len: usize,
-        start: u64,
-        budget: u32,
-        window: u64,
-        unique: *mut u8,
-        unique_len: usize,
-        register_space: *mut u8,
-        register_len: usize,
-        ram: *mut u8,
-        ram_len: usize,
-        unique_labels: *mut u8,
-        unique_labels_len: usize,
-        register_labels: *mut u8,
-        register_labels_len: usize,
-        ram_labels: *mut u8,
-        ram_labels_len: usize,
-        log: *mut u64,
-        log_len: usize,
-        journal: *mut u64,
-        journal_len: usize,
-        report: *mut u64,
-        report_len: usize,
-    ) -> u64;
-}
+use calls::{undrelvoa_labelled_run, undrelvoa_run, undrelvoa_speculative_run};
 
 /// The most operations of a window.
 pub const LARGEST_WINDOW: u64 = 64;

@@ -111,61 +111,12 @@ pub struct Spaces {
     pub ram: Vec<u8>,
 }
 
-// As in include/undrelvoa.h.
-unsafe extern "C" {
-    fn undrelvoa_labelled_run(
-        settings: *const u64,
-        settings_len: usize,
-        list: *const u64,
-        list_len: usize,
-        start: u64,
-        budget: u32,
-        unique: *mut u8,
-        unique_len: usize,
-        register_space: *mut u8,
-        register_len: usize,
-        ram: *mut u8,
-        ram_len: usize,
-        unique_labels: *mut u8,
-        unique_labels_len: usize,
-        register_labels: *mut u8,
-        register_labels_len: usize,
-        ram_labels: *mut u8,
-        ram_labels_len: usize,
-        log: *mut u64,
-        log_len: usize,
-        report: *mut u64,
-        report_len: usize,
-    ) -> u64;
+// The examples do not use all of its calls.
+#[allow(dead_code)]
+#[path = "../../include/undrelvoa.rs"]
+mod calls;
 
-    fn undrelvoa_speculative_run(
-        settings: *const u64,
-        settings_len: usize,
-        list: *const u64,
-        list_len: usize,
-        start: u64,
-        budget: u32,
-        window: u64,
-        unique: *mut u8,
-        unique_len: usize,
-        register_space: *mut u8,
-        register_len: usize,
-        ram: *mut u8,
-        ram_len: usize,
-        unique_labels: *mut u8,
-        unique_labels_len: usize,
-        register_labels: *mut u8,
-        register_labels_len: usize,
-        ram_labels: *mut u8,
-        ram_labels_len: usize,
-        log: *mut u64,
-        log_len: usize,
-        journal: *mut u64,
-        journal_len: usize,
-        report: *mut u64,
-        report_len: usize,
-    ) -> u64;
-}
+use calls::{undrelvoa_labelled_run, undrelvoa_speculative_run};
 
 /// Runs a list from `start` on, at most `budget` operations. The start of `log` becomes the log words written.
 pub fn labelled_run(

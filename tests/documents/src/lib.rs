@@ -1,6 +1,7 @@
 //! Checks what the documents say against the files of the repository, so that neither a rule of the
 //! reference, a row of the trace nor a link goes stale. Each check returns all its problems at once, one a line.
 
+pub mod calls;
 pub mod declared;
 pub mod edits;
 pub mod header;

@@ -1,7 +1,7 @@
 //! The checks, on the repository that this package stands in.
 
 use documents::repository::Repository;
-use documents::{edits, header, links, machine, opcodes, promises, reference, trace};
+use documents::{calls, edits, header, links, machine, opcodes, promises, reference, trace};
 use std::env;
 use std::path::Path;
 
@@ -26,6 +26,11 @@ fn the_opcodes_of_the_reference_are_those_of_the_definition() {
 #[test]
 fn the_header_has_the_numbers_of_the_reference_and_the_version() {
     must_have_no_problem(header::problems);
+}
+
+#[test]
+fn the_calls_for_rust_are_those_of_the_header() {
+    must_have_no_problem(calls::problems);
 }
 
 #[test]
