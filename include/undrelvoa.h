@@ -33,12 +33,12 @@ extern "C" {
 
 /* The version of this header and of the library that it is for: that of the file VERSION. The first number
  * grows where a call changes, in its parameters or in the words that it takes: a program must then be checked
- * and compiled again, since the linker does not notice. The second grows where a call is added, the third where
- * calls are neither changed nor added. */
-#define UNDRELVOA_VERSION "3.1.1"
+ * and compiled again, since the linker does not notice. The second grows where a call is added or answers
+ * otherwise than before, the third where none is and none does. */
+#define UNDRELVOA_VERSION "3.2.0"
 #define UNDRELVOA_VERSION_MAJOR 3
-#define UNDRELVOA_VERSION_MINOR 1
-#define UNDRELVOA_VERSION_PATCH 1
+#define UNDRELVOA_VERSION_MINOR 2
+#define UNDRELVOA_VERSION_PATCH 0
 
 /* Limits. The verdict and the runs refuse what is beyond them. */
 #define UNDRELVOA_MAX_OPERATIONS 4096   /* operations of a list */
@@ -315,8 +315,8 @@ uint64_t undrelvoa_step(const uint64_t *settings, size_t settings_len, const uin
  *
  * The endings are those of enum undrelvoa_ending but for 35. After a refusal the labels too are as lent.
  * LEAK is a secret byte in the pointer of LOAD or STORE, the condition of CBRANCH, input0 of BRANCHIND,
- * CALLIND or RETURN, or a divisor. All bytes that an operation writes become secret if a byte that it reads
- * is, else public.
+ * CALLIND or RETURN, or the dividend or divisor (input0, input1) of INT_DIV, INT_REM, INT_SDIV or INT_SREM.
+ * All bytes that an operation writes become secret if a byte that it reads is, else public.
  * Answers 0 when the report is written, or 11.
  */
 uint64_t undrelvoa_labelled_run(const uint64_t *settings, size_t settings_len, const uint64_t *list,

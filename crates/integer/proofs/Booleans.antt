@@ -22,6 +22,12 @@ pub or-false : (t : Bool) → t || false ≡ t
 or-false true = refl
 or-false false = refl
 
+pub or-commutes : (s t : Bool) → s || t ≡ t || s
+or-commutes true true = refl
+or-commutes true false = refl
+or-commutes false true = refl
+or-commutes false false = refl
+
 -- both sides of a conjunction that holds
 pub both : (s t : Bool) → s && t ≡ true → (s ≡ true) × (t ≡ true)
 both true true e = (refl, refl)

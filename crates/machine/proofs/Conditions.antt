@@ -13,7 +13,7 @@ use Rattle.arithmetic.specs.Result.{lookup, integerResults, result}
 use Rattle.integer.specs.Operations.{flag, piece, subpiece, intZext}
 use Rattle.arithmetic.specs.Opcodes.{member, opcodes, rowOf, outputs, inputs, hasPlace}
 use Rattle.arithmetic.specs.Operands.{divides}
-use Rattle.integer.proofs.Booleans.{or-false, both, neither}
+use Rattle.integer.proofs.Booleans.{or-false, or-commutes, both, neither}
 use Rattle.operation.specs.declared.layout.Settings.{Settings}
 use Rattle.operation.specs.declared.layout.Varnode.{Varnode}
 use Rattle.machine.specs.Program.{Program, bigEndian}
@@ -94,12 +94,6 @@ value-fits settings m v b h = by (eqb (v .space) 1) refl
 constant-value : (settings : Settings) (m : Memory) (v : Varnode) → v .space ≡ 1 → valueAt settings m v ≡ v .offset
 unfolding valueAt
 constant-value settings m v e = rw e refl
-
-or-commutes : (s t : Bool) → s || t ≡ t || s
-or-commutes true true = refl
-or-commutes true false = refl
-or-commutes false true = refl
-or-commutes false false = refl
 
 -- the other operations, but for PIECE, SUBPIECE and INT_ZEXT
 calculated : (settings : Settings) (op : Operation) (m : Memory) (n : ℕ) → moves op ≡ false
@@ -354,19 +348,18 @@ module _ (program : Program) (op : Operation) (at : Position) (labels m : Memory
         by true = refl
         by false = refl
 
-    divided : next ≡ suc (at .index) → (hasSecret labels (op .input1) ≡ false → Writes Kind.divide value1 place hidden value)
+    divided : next ≡ suc (at .index) → Writes Kind.divide value1 place hidden value
         → executeAs program Kind.divide op at labels m
-        ≡ exactStepBy (hasSecret labels (op .input1)) false (eqb value1 0) false false word to next place hidden value
+        ≡ exactStepBy (hasSecret labels (op .input1) || hasSecret labels (op .input0)) false (eqb value1 0) false false word to next place hidden value
     unfolding executeAs sinks resolvedValue resolved tested exactStepBy applyDecision decided checked endingOf
-    divided n w = rw (one-secret labels (op .input1), n) (by (hasSecret labels (op .input1)) refl (eqb value1 0))
+    divided n w = rw (two-secret labels (op .input1) (op .input0), n) (by (hasSecret labels (op .input1) || hasSecret labels (op .input0)) (eqb value1 0))
       where
-        by : (t : Bool) → hasSecret labels (op .input1) ≡ t → (z : Bool)
-            → applyDecision program Kind.divide op at labels m value1
+        by : (t z : Bool) → applyDecision program Kind.divide op at labels m value1
             (cond t (Decision.stop Stop.leak) (cond z (Decision.stop Stop.zeroDivisor) (Decision.next [] (suc (at .index)))))
             ≡ exactStepBy t false z false false word to (suc (at .index)) place hidden value
-        by true e z = refl
-        by false e true = refl
-        by false e false = goes Kind.divide value1 (suc (at .index)) [] (w e)
+        by true z = refl
+        by false true = refl
+        by false false = goes Kind.divide value1 (suc (at .index)) [] w
 
     -- LOAD and STORE
     accessed : (k : Kind) (size : ℕ) → sinks k op ≡ op .input1 ∷ [] → tested k op ≡ op .input1 → ((x : ℕ) → resolved (program .settings) k op x ≡ byteOffset (program .settings) op x)
@@ -457,7 +450,7 @@ module _ (program : Program) (op : Operation) (at : Position) (labels m : Memory
       let s1 : Bool = hasSecret labels (op .input1) in
       let x : ℕ = cond (c .pointer) offset1 value1 in
       exactStepBy
-      ((c .pointer && s1) || (c .condition && s1) || (c .indirect && s0) || (c .divisor && s1))
+      ((c .pointer && s1) || (c .condition && s1) || (c .indirect && s0) || (c .divisor && s1) || (c .divisor && s0))
       ((c .loads && exceedsSpace m (pointee op x (op .output .size))) || (c .stores && exceedsSpace m (pointee op x (op .input2 .size))))
       (c .divisor && eqb x 0)
       (c .logs)
@@ -526,11 +519,11 @@ module _ (program : Program) (op : Operation) (at : Position) (labels m : Memory
     meets-divide : classOf (op .opcode) ≡ divisions
         → Bytes (op .output .size) (op .input0 ∷ op .input1 ∷ []) → Meets
     unfolding divisions exactStepAs target sources
-    meets-divide c e = exactStep-as divisions c (divided _ _ _ _ _ _ refl (λ p. writes Kind.divide _ _ _ _ refl both-read e))
+    meets-divide c e = exactStep-as divisions c (divided _ _ _ _ _ _ refl (writes Kind.divide _ _ _ _ refl both-read e))
 
     meets-jump : classOf (op .opcode) ≡ indirectBranches → Meets
     unfolding indirectBranches exactStepAs
-    meets-jump c = exactStep-as indirectBranches c (rw (or-false (hasSecret labels (op .input0))) (jumped _ _ _ _ _ _ refl))
+    meets-jump c = exactStep-as indirectBranches c (rw (or-false (hasSecret labels (op .input0)), or-false (hasSecret labels (op .input0))) (jumped _ _ _ _ _ _ refl))
 
     meets-branch : classOf (op .opcode) ≡ directBranches → op .output ≡ absent → Destination (at .index) (op .input0) → Meets
     unfolding directBranches exactStepAs
@@ -540,7 +533,12 @@ module _ (program : Program) (op : Operation) (at : Position) (labels m : Memory
     unfolding conditionalBranch exactStepAs logWord
     meets-cbranch c e d =
         exactStep-as conditionalBranch c
-        (rw (or-false (hasSecret labels (op .input1)), or-false (hasSecret labels (op .input1)), or-false (not (eqb value1 0) && eqb (op .input0 .space) 4))
+        (rw (
+          or-false (hasSecret labels (op .input1)),
+          or-false (hasSecret labels (op .input1)),
+          or-false (hasSecret labels (op .input1)),
+          or-false (not (eqb value1 0) && eqb (op .input0 .space) 4),
+        )
         (cbranched _ _ _ _ _ _ refl refl refl e d))
 
     pointee-fits : accesses (op .opcode) ≡ true → (size : ℕ) → valueAt (program .settings) m (pointee op offset1 size) < 256 ^ size
@@ -558,6 +556,7 @@ module _ (program : Program) (op : Operation) (at : Position) (labels m : Memory
           or-false (hasSecret labels (op .input1)),
           or-false (hasSecret labels (op .input1)),
           or-false (hasSecret labels (op .input1)),
+          or-false (hasSecret labels (op .input1)),
           or-false (not (leb (offset1 + op .output .size) (length (spaceOf m (op .input0 .offset))))),
         )
         (accessed _ _ _ _ _ _ Kind.load (op .output .size) refl refl (λ x. refl) (λ i extent room x. refl) refl refl
@@ -568,7 +567,12 @@ module _ (program : Program) (op : Operation) (at : Position) (labels m : Memory
     unfolding store exactStepAs sinks tested resolved checked target sources pointee exceedsSpace logWord
     meets-store c e =
         exactStep-as store c
-        (rw (or-false (hasSecret labels (op .input1)), or-false (hasSecret labels (op .input1)), or-false (hasSecret labels (op .input1)))
+        (rw (
+          or-false (hasSecret labels (op .input1)),
+          or-false (hasSecret labels (op .input1)),
+          or-false (hasSecret labels (op .input1)),
+          or-false (hasSecret labels (op .input1)),
+        )
         (accessed _ _ _ _ _ _ Kind.store (op .input2 .size) refl refl (λ x. refl) (λ i extent room x. refl) refl refl
         (λ p. writes Kind.store _ _ _ _ refl (one-secret labels (op .input2)) e)))
 

@@ -17,5 +17,6 @@ pub mod Marked
 pub mod ByteOrder
 pub mod Moves
 pub mod Conditions
+pub mod Divisions
 pub mod Wordsizes
 pub mod Pinned

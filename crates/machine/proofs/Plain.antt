@@ -53,7 +53,7 @@ nothing-written v xs = rw (unlabelled-space, sets-nil) (unlabelled-with (v .spac
 
 -- ---- the run
 
-data SameSteps : Stepped → Stepped → Type 0 where
+pub data SameSteps : Stepped → Stepped → Type 0 where
   leaks : {a : Stepped} {q : Ended} → q .ending ≡ 31 → SameSteps a (Stepped.halted q)
   halts : {r q : Ended} → SameRun r q → SameSteps (Stepped.halted r) (Stepped.halted q)
   goes : {at : Position} {labels m : Memory} → SameSteps (Stepped.going at unlabelled m) (Stepped.going at labels m)
@@ -76,7 +76,7 @@ module _ (program : Program) (labels m : Memory) where
   decided-same true k op at i extent room x = leaks refl
   decided-same false k op at i extent room x = applied-same k op at x (checked k op i extent room x)
 
-  stepped-same : (at : Position) → SameSteps (stepped program at unlabelled m) (stepped program at labels m)
+  pub stepped-same : (at : Position) → SameSteps (stepped program at unlabelled m) (stepped program at labels m)
   unfolding stepped execute executeAs
   stepped-same at =
       rw nothing-secret

@@ -70,11 +70,11 @@ absent-bytes labels = refl
 -- what is tested is public where all that must be public is
 tested-public : (labels : Memory) (k : Kind) (op : Operation) → secret labels (sinks k op) ≡ false → anySecret (bytesAt labels (tested k op)) ≡ false
 unfolding sinks tested secret
-tested-public labels Kind.load op h = neither (anySecret (bytesAt labels (op .input1))) false h .0
-tested-public labels Kind.store op h = neither (anySecret (bytesAt labels (op .input1))) false h .0
-tested-public labels Kind.cbranch op h = neither (anySecret (bytesAt labels (op .input1))) false h .0
-tested-public labels Kind.jump op h = neither (anySecret (bytesAt labels (op .input0))) false h .0
-tested-public labels Kind.divide op h = neither (anySecret (bytesAt labels (op .input1))) false h .0
+tested-public labels Kind.load op h = neither _ _ h .0
+tested-public labels Kind.store op h = neither _ _ h .0
+tested-public labels Kind.cbranch op h = neither _ _ h .0
+tested-public labels Kind.jump op h = neither _ _ h .0
+tested-public labels Kind.divide op h = neither _ _ h .0
 tested-public labels Kind.copy op h = absent-bytes labels
 tested-public labels Kind.branch op h = absent-bytes labels
 tested-public labels Kind.piece op h = absent-bytes labels
@@ -99,7 +99,7 @@ module _ {labels m n : Memory} (r : Spaces Public labels m n) where
       let e = neither (anySecret (bytesAt labels v)) (secret labels vs) h in
       rw (public-bytes v (e .0), public-digits settings vs (e .1))
 
-  public-value : (settings : Settings) (v : Varnode) → anySecret (bytesAt labels v) ≡ false → valueAt settings m v ≡ valueAt settings n v
+  pub public-value : (settings : Settings) (v : Varnode) → anySecret (bytesAt labels v) ≡ false → valueAt settings m v ≡ valueAt settings n v
   unfolding valueAt
   public-value settings v h = rw (public-bytes v h)
 

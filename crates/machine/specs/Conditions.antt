@@ -25,13 +25,14 @@ unfoldable pub hasSecret : (labels : Memory) → Varnode → Bool
 hasSecret labels v = cond (eqb (v .space) 1) false (anySecret (bytesAt labels v))
 
 -- LEAK: a secret byte in the pointer of LOAD or STORE, the condition, input0 of BRANCHIND, CALLIND or RETURN, or input1 of INT_DIV,
--- INT_REM, INT_SDIV, INT_SREM.
+-- INT_REM, INT_SDIV, INT_SREM. It also covers input0 of these four.
 unfoldable pub leaks : (labels : Memory) → Operation → Bool
 leaks labels op =
     (member (op .opcode) (2 ∷ 3 ∷ []) && hasSecret labels (op .input1))
     || (eqb (op .opcode) 5 && hasSecret labels (op .input1))
     || (member (op .opcode) (6 ∷ 8 ∷ 9 ∷ []) && hasSecret labels (op .input0))
     || (member (op .opcode) (35 ∷ 36 ∷ 37 ∷ 38 ∷ []) && hasSecret labels (op .input1))
+    || (member (op .opcode) (35 ∷ 36 ∷ 37 ∷ 38 ∷ []) && hasSecret labels (op .input0))
 
 -- ---- by the number b that input1 stands for: the byte offset of LOAD 2 and STORE 3, else its value
 

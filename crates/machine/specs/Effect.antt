@@ -67,8 +67,8 @@ sinks store op = op .input1 ∷ []
 sinks cbranch op = op .input1 ∷ []
 -- input0 of BRANCHIND, CALLIND or RETURN,
 sinks jump op = op .input0 ∷ []
--- or input1 of INT_DIV, INT_REM, INT_SDIV, INT_SREM.
-sinks divide op = op .input1 ∷ []
+-- or input1 of INT_DIV, INT_REM, INT_SDIV, INT_SREM; and their input0, since a division takes time by both.
+sinks divide op = op .input1 ∷ op .input0 ∷ []
 sinks copy op = []
 sinks branch op = []
 sinks piece op = []

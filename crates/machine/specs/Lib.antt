@@ -9,6 +9,7 @@ pub mod Resume
 pub mod Order
 pub mod Limits
 pub mod Marked
+pub mod Divisions
 pub mod Conditions
 pub mod Wordsizes
 pub mod Pinned

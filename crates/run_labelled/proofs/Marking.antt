@@ -3,7 +3,7 @@ use Prim.Native.Nat.{ℕ, _+_, _*_, _%_, _^_, _≤_, _<_}
 use native.Mathlib.Nat.{add-comm, add-mul-mod-self-right, mod-eq-of-lt}
 use native.Mathlib.Omega.{arith}
 use mathlib.Core.Path.{_≡_, refl, sym, ap, _∙_}
-use mathlib.Core.Bool.{Bool, true, false, cond, _&&_, _||_, true≢false}
+use mathlib.Core.Bool.{Bool, true, false, cond, _&&_, true≢false}
 use mathlib.Core.List.{List, [], _∷_, _++_, append-assoc}
 use borrow.Author.Tests.{leb-false}
 use lib.Dec.{eqb, leb, ltb}
@@ -11,7 +11,6 @@ use lib.ListN.{length, getD, take, drop, replicate, length-append}
 use lib.Seq.{length-take-le, getD-append-seam}
 use Rattle.word.specs.Word.{bytesOf}
 use Rattle.integer.specs.Operations.{flag}
-use Rattle.integer.proofs.Booleans.{neither}
 use Rattle.arithmetic.specs.Opcodes.{member}
 use Rattle.operation.specs.declared.layout.Varnode.{Varnode}
 use Rattle.operation.specs.declared.report.Report.{Report}
@@ -324,15 +323,11 @@ module _ (program : Program) (i k : ℕ) (log : List ℕ) (labels m : Memory) (w
 
     public-pointer : eqb (op .opcode) 2 ≡ true → hasSecret labels (op .input1) ≡ false
     unfolding leaks member
-    public-pointer e =
-        let a =
-        neither
-        (((eqb (op .opcode) 2 || (eqb (op .opcode) 3 || false)) && hasSecret labels (op .input1))
-        || (eqb (op .opcode) 5 && hasSecret labels (op .input1)) || (member (op .opcode) (6 ∷ 8 ∷ 9 ∷ []) && hasSecret labels (op .input0)))
-        _ public in
-        let c = neither (((eqb (op .opcode) 2 || (eqb (op .opcode) 3 || false)) && hasSecret labels (op .input1)) || (eqb (op .opcode) 5 && hasSecret labels (op .input1))) _ (a .0) in
-        let d = neither ((eqb (op .opcode) 2 || (eqb (op .opcode) 3 || false)) && hasSecret labels (op .input1)) _ (c .0) in
-        rw e at (d .0)
+    public-pointer e = by (hasSecret labels (op .input1)) refl
+      where
+        by : (t : Bool) → hasSecret labels (op .input1) ≡ t → t ≡ false
+        by false h = refl
+        by true h = absurd (true≢false (rw (e, h) at public))
 
     names-constant : eqb (op .opcode) 2 ≡ true → op .input0 .space ≡ 1
     unfolding operationAt

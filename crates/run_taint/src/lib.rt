@@ -1,8 +1,10 @@
 // What an operation must find public, and what becomes secret by it.
 ghost use mathlib.Core.Path.{_≡_};
+ghost use mathlib.Core.Bool.{false};
 ghost use Prim.Native.Nat.{_+_, _*_, _≤_, _<_};
 ghost use lib.ListN.{length};
-ghost use Rattle.operation.specs.Layout.{wordsPerOperation, operationCount, absent};
+ghost use Rattle.arithmetic.specs.Operands.{divides};
+ghost use Rattle.operation.specs.Layout.{wordsPerOperation, operationCount, absent, opcodeAt};
 ghost use Rattle.machine.specs.Memory.{Memory, spaces, lengthsOf};
 ghost use Rattle.machine.specs.Effect.{operationAt, pointee};
 ghost use Rattle.machine.specs.Conditions.{hasSecret, leaks, destinationBytes, becomesSecret};
@@ -20,7 +22,7 @@ use operation::rules::accesses;
 use operation::rules::jumps;
 use run_memory::labels::has_secret;
 
-// LEAK: a byte that must be public is secret.
+// LEAK: a byte that must be public is secret. Of a division both operands must be public, of any other operation at most one varnode.
 pub fn leaks_at<'a>(
     list: &[u64],
     unique: &'a [u8],
@@ -31,21 +33,23 @@ pub fn leaks_at<'a>(
     requires { ⌜ Valid (lengthsOf (spaces (now unique) (now register) (now ram))) (now list) × (i < operationCount (now list)) ⌝ }
     ensures { λ r. ⌜ r ≡ leaks (spaces (now (unique .entry)) (now (register .entry)) (now (ram .entry))) (operationAt (now (list .entry)) i) ⌝ }
 {
+    if is_division(opcode_at(list, i)) {
+        let dividend = has_secret(unique, register, ram, varnode_at(list, i, 1));
+        let divisor = has_secret(unique, register, ram, varnode_at(list, i, 2));
+        return either(dividend, divisor);
+    }
     has_secret(unique, register, ram, sink_at(list, i))
 }
 
-// The varnode that must be public: input0 of an exit, input1 of LOAD, STORE, CBRANCH and a division; else an absent one. The first test
-// tells most operations.
+// The varnode that must be public, of an operation that is no division: input0 of an exit, input1 of LOAD, STORE and CBRANCH; else an
+// absent one. The first test tells most operations.
 fn sink_at(list: &[u64], i: usize) -> Varnode
-    requires { ⌜ wordsPerOperation * i + wordsPerOperation ≤ length (now list) ⌝ }
+    requires { ⌜ (wordsPerOperation * i + wordsPerOperation ≤ length (now list)) × (divides (opcodeAt (now list) i) ≡ false) ⌝ }
     ensures leak { λ r. ⌜ ((labels : Memory) → hasSecret labels r ≡ leaks labels (operationAt (now (list .entry)) i)) ⌝ }
     ensures place { λ r. ⌜ ((labels : Memory) → Valid (lengthsOf labels) (now (list .entry)) → i < operationCount (now (list .entry)) → Placed labels r) ⌝ }
 {
     let opcode = opcode_at(list, i);
     if FIRST_INTEGER <= opcode {
-        if is_division(opcode) {
-            return varnode_at(list, i, 2);
-        }
         return absent();
     }
     if either(accesses(opcode), opcode == 5) {

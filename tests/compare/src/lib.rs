@@ -3,6 +3,7 @@
 pub mod agreement;
 pub mod campaign;
 pub mod counts;
+pub mod divisions;
 mod guards;
 pub mod inputs;
 pub mod lists;

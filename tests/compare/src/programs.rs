@@ -18,6 +18,7 @@ use crate::random::Random;
 use crate::runs::Case;
 
 mod branches;
+mod divisions;
 mod speculative;
 
 /// The most operations that a run executes which does not end by itself.
@@ -118,7 +119,12 @@ impl Programs {
         };
         let count = 1 + self.below(6);
         let draft = Draft { many_accesses: true, ..Draft::new(settings, lengths, count) };
-        let mut case = self.filled(draft);
+        let case = self.filled(draft);
+        self.run_from_the_first(case)
+    }
+
+    /// The case from its first operation on, mostly with a budget and a log for all of it.
+    fn run_from_the_first(&mut self, mut case: Case) -> Case {
         case.call.start = 0;
         if self.once_in(8) {
             self.set_budget_and_log(&mut case);

@@ -14,6 +14,7 @@ use reference::varnode::{Varnode, CONSTANT};
 use reference::verdict::{verdict, LONGEST_SPACE};
 
 use crate::counts::Counts;
+use crate::divisions::{Division, Secret};
 use crate::lists::entry_at;
 use crate::runs::Case;
 use crate::secrets::labels;
@@ -59,6 +60,11 @@ pub enum Event {
     /// A window over for LEAK AHEAD, by the opcode of the operation.
     Leak {
         opcode: u8,
+    },
+    /// The same at a division, by which operands have a secret byte.
+    LeakAtDivision {
+        opcode: u8,
+        secret: Secret,
     },
     /// A window whose way is an address in ram.
     ToRam,
@@ -237,6 +243,10 @@ impl<'a> Watch<'a> {
         if let (Closing::LeakAhead, Next::Index(index)) = (closing, at) {
             let opcode = entry_at(&self.program.list, index).opcode;
             self.windows.add(Event::Leak { opcode });
+            let division = Division::at(&self.program.list, index);
+            if let Some(secret) = division.and_then(|division| division.secret(&open.labels)) {
+                self.windows.add(Event::LeakAtDivision { opcode, secret });
+            }
         }
     }
 }

@@ -6,6 +6,7 @@ use std::iter::zip;
 
 use compare::agreement::Tally;
 use compare::campaign::Campaign;
+use compare::divisions::{self, Divisions, Secret, DIVISIONS};
 use compare::parts::run_in_parts;
 use compare::programs::Programs;
 use compare::runs::{check_run, interpreter_report, Case, Job};
@@ -27,6 +28,9 @@ const MEMORY_PAIRS: u64 = 100_000;
 /// or a STORE with such a one.
 const WIDE_MEMORY_PAIRS: u64 = 120_000;
 const WIDE_PAIR_QUOTA: u64 = 50_000;
+/// How many pairs have many divisions, and how many of them at least should come to one.
+const DIVISION_MEMORY_PAIRS: u64 = 70_000;
+const DIVISION_PAIR_QUOTA: u64 = 50_000;
 /// How many runs are tried in parts, and how many of them at least should stop and be resumed.
 const RUNS_IN_PARTS: u64 = 145_000;
 const RESUMED_RUNS: u64 = 50_000;
@@ -234,6 +238,36 @@ fn secret_bytes_do_not_show_with_other_wordsizes_than_1() {
     if campaign.is_whole() {
         accesses.assert_quota(Event::Run, WIDE_PAIR_QUOTA * campaign.times());
         accesses.assert_quota(Event::Leak, ENDING_QUOTA);
+    }
+}
+
+#[test]
+fn secret_bytes_do_not_show_in_divisions() {
+    const SEED: u64 = 0x5eed_0046;
+    let mut campaign = Campaign::new(SEED, DIVISION_MEMORY_PAIRS);
+    let mut tally = Tally::default();
+    let mut divisions = Divisions::default();
+    for (_, random) in campaign.by_ref() {
+        let pair = memory_pair(&mut Programs::new(random), Programs::division_case);
+        let ([one, _], report) = check_pair(&pair);
+        tally.count(report[0]);
+        let mut divided = divisions.count_stopped(&one, &report);
+        let Case { call, mut state } = pair[0].clone();
+        let observer = |opcode| divided |= divisions.count_executed(opcode);
+        check_run(Job::Run, &call, &mut state, LentWords::EXACT, observer);
+        divisions.add_those_that_came([(divided, divisions::Event::Run)]);
+    }
+    println!(
+        "labelled run, pairs of memories with other secret bytes and divisions: {campaign}, {tally}\n\
+         labelled run, pairs, divisions: {divisions}"
+    );
+    if campaign.is_whole() {
+        divisions.assert_quota(divisions::Event::Run, DIVISION_PAIR_QUOTA * campaign.times());
+        for opcode in DIVISIONS.map(|opcode| opcode as u8) {
+            let leak = divisions::Event::Leak { opcode, secret: Secret::Dividend };
+            divisions.assert_quota(leak, ENDING_QUOTA);
+            divisions.assert_quota(divisions::Event::Executed { opcode }, ENDING_QUOTA);
+        }
     }
 }
 

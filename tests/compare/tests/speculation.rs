@@ -7,6 +7,7 @@ use std::iter::zip;
 
 use compare::agreement::Tally;
 use compare::campaign::Campaign;
+use compare::divisions::{Secret, DIVISIONS};
 use compare::inputs::{BAD_WINDOWS, GOOD_ORDERS, SIZES};
 use compare::parts::run_in_parts;
 use compare::programs::Programs;
@@ -48,6 +49,12 @@ const LONG_SPACE_QUOTA: u64 = 100;
 /// The operations at which a run leaks, by opcode.
 const SINKS: [u8; 10] = [2, 3, 5, 6, 8, 9, 35, 36, 37, 38];
 
+/// LEAK AHEAD at each division by its dividend alone.
+fn leaks_by_dividend() -> [Event; 4] {
+    let secret = Secret::Dividend;
+    DIVISIONS.map(|opcode| Event::LeakAtDivision { opcode: opcode as u8, secret })
+}
+
 /// How often each event should come in random runs.
 fn assert_quotas(windows: &Windows) {
     use Closing::*;
@@ -83,7 +90,9 @@ fn assert_quotas(windows: &Windows) {
         Event::OverBytesWritten,
         Event::UndoOrder,
     ];
-    let events: [&[Event]; 7] = [&closings, &sinks, &refused, &runs, &done, &last, &others];
+    let dividends = leaks_by_dividend();
+    let events: [&[Event]; 8] =
+        [&closings, &sinks, &dividends, &refused, &runs, &done, &last, &others];
     for &event in events.into_iter().flatten() {
         windows.assert_quota(event, QUOTA);
     }
@@ -318,8 +327,9 @@ fn secret_bytes_do_not_show() {
         for event in [Event::MakesSecret, Event::MakesPublic, Event::Closed(Closing::Log)] {
             windows.assert_quota(event, NEW_ENDING_QUOTA);
         }
-        for opcode in SINKS {
-            windows.assert_quota(Event::Leak { opcode }, QUOTA);
+        let sinks = SINKS.map(|opcode| Event::Leak { opcode });
+        for event in sinks.into_iter().chain(leaks_by_dividend()) {
+            windows.assert_quota(event, QUOTA);
         }
     }
 }

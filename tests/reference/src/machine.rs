@@ -131,7 +131,7 @@ impl<'a> Machine<'a> {
         let Some(labels) = &self.state.labels else {
             return false;
         };
-        instruction.must_be_public().is_some_and(|varnode| is_secret(labels, &varnode))
+        instruction.must_be_public().iter().flatten().any(|varnode| is_secret(labels, varnode))
     }
 
     /// The byte offset of a LOAD or a STORE: the pointer times the wordsize of the space that input0
@@ -275,14 +275,17 @@ impl Instruction {
         }
     }
 
-    /// The varnode that LEAK looks at: a pointer, a condition, an indirect destination or a divisor.
-    fn must_be_public(&self) -> Option<Varnode> {
+    /// The varnodes that LEAK looks at: a pointer, a condition, an indirect destination, or both
+    /// operands of a division, since its time depends on both.
+    fn must_be_public(&self) -> [Option<Varnode>; 2] {
         match self.operation.opcode {
-            Opcode::Load | Opcode::Store => Some(self.input1()),
-            Opcode::Cbranch => Some(self.input1()),
-            Opcode::BranchInd | Opcode::CallInd | Opcode::Return => Some(self.varnodes.input0),
-            _ if self.operation.divides() => Some(self.input1()),
-            _ => None,
+            Opcode::Load | Opcode::Store => [Some(self.input1()), None],
+            Opcode::Cbranch => [Some(self.input1()), None],
+            Opcode::BranchInd | Opcode::CallInd | Opcode::Return => {
+                [Some(self.varnodes.input0), None]
+            }
+            _ if self.operation.divides() => [Some(self.varnodes.input0), Some(self.input1())],
+            _ => [None, None],
         }
     }
 

@@ -199,7 +199,7 @@ impl Operation {
         self.number() >= Piece as u64
     }
 
-    /// Whether input1 is a divisor.
+    /// Whether input0 is a dividend and input1 a divisor.
     pub fn divides(&self) -> bool {
         matches!(self.opcode, IntDiv | IntRem | IntSdiv | IntSrem)
     }

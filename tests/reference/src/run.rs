@@ -156,6 +156,8 @@ mod tests {
     const DIVISION: [u64; 5] = [0x21_21_21_23, 2, 0, 1, 0];
     /// INT_ADD of the first byte of unique and the second, into the third.
     const ADDITION: [u64; 5] = [0x21_21_21_15, 2, 0, 1, 0];
+    /// INT_MULT of the first byte of unique and the second, into the third.
+    const MULTIPLICATION: [u64; 5] = [0x21_21_21_22, 2, 0, 1, 0];
     /// BRANCH to itself.
     const FOREVER: [u64; 5] = [0x11_00_04, 0, 0, 0, 0];
 
@@ -431,14 +433,17 @@ mod tests {
         assert_eq!(stopped(LOAD, &before), fault::BOUNDS);
         before.memory.register.fill(0);
         assert_eq!(stopped(LOAD, &before), fault::LOG);
-        labels(&mut before).unique[1] = SECRET;
-        assert_eq!(stopped(DIVISION, &before), fault::LEAK);
-        labels(&mut before).unique[1] = PUBLIC;
+        // The operands are bytes 0 and 1 of unique, and the divisor is 0.
+        for operand in [0, 1] {
+            labels(&mut before).unique[operand] = SECRET;
+            assert_eq!(stopped(DIVISION, &before), fault::LEAK);
+            labels(&mut before).unique[operand] = PUBLIC;
+        }
         assert_eq!(stopped(DIVISION, &before), fault::ZERO);
     }
 
     #[test]
-    fn leak_looks_at_pointers_conditions_destinations_and_divisors() {
+    fn leak_looks_at_pointers_conditions_destinations_dividends_and_divisors() {
         let secret = |operation: [u64; 5]| {
             let mut before = labelled(state(&[1; 4], &[0; 8], &[0; 4]));
             labels(&mut before).unique[1] = SECRET;
@@ -447,6 +452,8 @@ mod tests {
         };
         for opcode in [0x23, 0x24, 0x25, 0x26] {
             assert_eq!(secret([0x21_21_21_00 + opcode, 2, 0, 1, 0]), fault::LEAK);
+            assert_eq!(secret([0x21_21_21_00 + opcode, 2, 1, 0, 0]), fault::LEAK);
+            assert_eq!(secret([0x11_21_21_00 + opcode, 2, 1, 3, 0]), fault::LEAK);
         }
         for opcode in [6, 8, 9] {
             assert_eq!(secret([0x38_00_00 + opcode, 0, 0, 0, 0]), fault::LEAK);
@@ -469,6 +476,8 @@ mod tests {
         assert_eq!(labels_after(ADDITION, [0, 0, 1, 1]), [0, 0, 0, 1]);
         assert_eq!(labels_after(ADDITION, [1, 0, 0, 0]), [1, 0, 1, 0]);
         assert_eq!(labels_after(ADDITION, [0, 1, 0, 0]), [0, 1, 1, 0]);
+        // Of the integer operations only divisions leak.
+        assert_eq!(labels_after(MULTIPLICATION, [1, 1, 0, 0]), [1, 1, 1, 0]);
         assert_eq!(labels_after(OVERLAPPING_COPY, [1, 0, 0, 0]), [1, 1, 1, 0]);
         assert_eq!(labels_after(OVERLAPPING_COPY, [0, 0, 1, 0]), [0, 0, 0, 0]);
         // Of the four bytes loaded, the last is secret.

@@ -357,8 +357,11 @@ mod tests {
             cbranch_by(1, SECRET_PLACE),
         ];
         operations.extend([6, 8, 9].map(|opcode| [0x21_00_00 + opcode, 0, SECRET_PLACE, 0, 0]));
-        operations
-            .extend((0x23..=0x26).map(|opcode| [0x21_11_21_00 + opcode, 0, 9, SECRET_PLACE, 0]));
+        for opcode in 0x23..=0x26 {
+            operations.push([0x21_11_21_00 + opcode, 0, 9, SECRET_PLACE, 0]);
+            operations.push([0x11_21_21_00 + opcode, 0, SECRET_PLACE, 9, 0]);
+            operations.push([0x11_21_21_00 + opcode, 0, SECRET_PLACE, 0, 0]);
+        }
         for operation in operations {
             let (report, log) = run_of_windows(&[copy(0, 0), cbranch(2, 1), operation], 1);
             assert_eq!(report, [fault::LEAK_AHEAD, 1, 1, 1, 0]);

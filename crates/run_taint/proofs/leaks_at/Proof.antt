@@ -1,22 +1,99 @@
 -- `run_taint::leaks_at` meets its contract.
+use native.Mathlib.Omega.{arith}
 use mathlib.Core.Path.{_∙_}
+use Rattle.arithmetic.specs.Operands.{divides}
+use Rattle.run_plan.proofs.Opcodes.{of-opcode}
 use Rattle.run_plan.proofs.Places.{in-words}
+use Rattle.run_taint.proofs.Tainting.{division-no-branch, operands-tell, place}
+use borrow.Author.Needs.{needs}
 use Rattle.run_taint.proofs.leaks_at.Statement.{statement}
 use Rattle.run_taint.proofs.leaks_at.Tie as tie
 
-sink-at-requires : tie.Need-sink-at-requires
-sink-at-requires c κs =
+opcode-at-requires : tie.Need-opcode-at-requires
+opcode-at-requires c κs =
     let pre = c .before .before .before .before .pre in
-    in-words _ _ (pre .0) _ (pre .1)
+    let h = in-words _ _ (pre .0) _ (pre .1) in
+    omega arith
+
+-- ---- a division
+
+varnode-at-requires : tie.Need-varnode-at-requires
+varnode-at-requires c κs =
+    let decoded = c .before .before in
+    let entry = decoded .before .before .before .before in
+    let pre = entry .before .pre in
+    (in-words _ _ (pre .0) _ (pre .1), omega arith)
 
 has-secret-requires : tie.Need-has-secret-requires
 has-secret-requires c κs =
-    let entry = c .before .before .before .before in
+    let divided = c .before in
+    let tested = divided .before in
+    let decoded = tested .before in
+    let entry = decoded .before .before .before .before in
+    let pre = entry .before .pre in
+    rw (c .varnode-at .ensures)
+    (place _ _ (pre .0) _ (pre .1) 1 (omega arith)
+    (λ z. division-no-branch _ (of-opcode divides (decoded .opcode-at .ensures) (tested .is-division .ensures) (divided .if1 .taken))))
+
+varnode-at-requires-2 : tie.Need-varnode-at-requires-2
+varnode-at-requires-2 c κs =
+    let divided = c .before .before in
+    let decoded = divided .before .before in
+    let entry = decoded .before .before .before .before in
+    let pre = entry .before .pre in
+    (in-words _ _ (pre .0) _ (pre .1), omega arith)
+
+has-secret-requires-2 : tie.Need-has-secret-requires-2
+has-secret-requires-2 c κs =
+    let divided = c .before .before .before in
+    let decoded = divided .before .before in
+    let entry = decoded .before .before .before .before in
+    let pre = entry .before .pre in
+    rw (c .varnode-at2 .ensures) (place _ _ (pre .0) _ (pre .1) 2 (omega arith) (λ z. absurd (omega arith)))
+
+returns : tie.Need-returns
+returns c =
+    let second = c .before in
+    let first = second .before .before in
+    let divided = first .before .before in
+    let tested = divided .before in
+    let decoded = tested .before in
+    c .either .ensures
+    ∙ rw (first .has-secret .ensures, second .has-secret2 .ensures, first .before .varnode-at .ensures, second .before .varnode-at2 .ensures)
+    (operands-tell _ _ _ (of-opcode divides (decoded .opcode-at .ensures) (tested .is-division .ensures) (divided .if1 .taken)))
+
+-- ---- any other operation
+
+sink-at-requires : tie.Need-sink-at-requires
+sink-at-requires c κs =
+    let tested = c .before in
+    let decoded = tested .before in
+    let entry = decoded .before .before .before .before in
+    let pre = entry .before .pre in
+    (in-words _ _ (pre .0) _ (pre .1), of-opcode divides (decoded .opcode-at .ensures) (tested .is-division .ensures) (c .if1 .left))
+
+has-secret-requires-3 : tie.Need-has-secret-requires-3
+has-secret-requires-3 c κs =
+    let decoded = c .before .before .before in
+    let entry = decoded .before .before .before .before in
     let pre = entry .before .pre in
     c .sink-at .ensures .1 _ (pre .0) (pre .1)
 
-returns : tie.Need-returns
-returns c = c .has-secret .ensures ∙ c .before .sink-at .ensures .0 _
+returns-2 : tie.Need-returns-2
+returns-2 c = c .has-secret3 .ensures ∙ c .before .sink-at .ensures .0 _
 
 pub leaks-at-spec : {M : Type 1} → statement M
-leaks-at-spec = tie.close (tie.spec sink-at-requires has-secret-requires returns)
+leaks-at-spec =
+    tie.close
+    (tie.spec
+    opcode-at-requires
+    (λ c κs. search needs)
+    varnode-at-requires
+    has-secret-requires
+    varnode-at-requires-2
+    has-secret-requires-2
+    (λ c κs. search needs)
+    returns
+    sink-at-requires
+    has-secret-requires-3
+    returns-2)

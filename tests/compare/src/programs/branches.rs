@@ -1,10 +1,8 @@
 //! Lists with many branches, and ways not taken on which there is something to be seen.
 
 use super::*;
+use crate::divisions::DIVISIONS;
 use reference::varnode::{REGISTER, UNIQUE};
-
-/// The operations that divide.
-const DIVISIONS: [Opcode; 4] = [Opcode::IntDiv, Opcode::IntRem, Opcode::IntSdiv, Opcode::IntSrem];
 
 /// The operations that always exit.
 const INDIRECT: [Opcode; 3] = [Opcode::BranchInd, Opcode::CallInd, Opcode::Return];
@@ -190,7 +188,11 @@ impl Programs {
         let operation = OPERATIONS[opcode as usize - 1];
         let entry = self.lists.entry_with_room(&operation, &draft.frame, draft.index());
         let entry = entry.and_then(|mut entry| {
-            let place = if operation.input_count == 1 { INPUT0 } else { INPUT1 };
+            let place = match operation.input_count {
+                1 => INPUT0,
+                _ if operation.divides() => self.pick(&[INPUT0, INPUT1]),
+                _ => INPUT1,
+            };
             let size = u64::from(entry.descriptors[place] % 16);
             let sink = self.lists.output(size, &draft.frame.lengths)?;
             put(&mut entry, place, sink);

@@ -1,0 +1,126 @@
+-- What a run divides does not depend on secret bytes.
+use Prim.Native.Nat.{ℕ, zero, suc}
+use mathlib.Core.Path.{_≡_, refl, sym, ap, _∙_}
+use mathlib.Core.Bool.{Bool, true, false, cond, true≢false}
+use mathlib.Core.List.{List, [], _∷_, _++_}
+use borrow.Author.Tests.{lt-ltb}
+use lib.Dec.{ltb}
+use Rattle.integer.proofs.Booleans.{or-false, or-commutes, neither}
+use Rattle.arithmetic.specs.Opcodes.{member}
+use Rattle.arithmetic.specs.Operands.{divides}
+use Rattle.operation.specs.Layout.{operationCount}
+use Rattle.operation.specs.Rules.{branches, jumps}
+use Rattle.machine.specs.Program.{Program}
+use Rattle.machine.specs.Memory.{Memory, bytesAt, valueAt}
+use Rattle.machine.specs.Effect.{Operation, Kind, operationAt, kindOf, sinks, anySecret, secret}
+use Rattle.machine.specs.Run.{Position, Ended, Stepped, endingOf, ended, decided, applyDecision, executeAs, execute, stepped, continued, run}
+use Rattle.machine.specs.Calls.{unlabelled}
+use Rattle.machine.specs.Divisions.{operandsAt, dividedAfter, divided, PublicDivisions}
+use Rattle.machine.proofs.Cases.{either}
+use Rattle.machine.proofs.Pointwise.{Spaces}
+use Rattle.machine.proofs.Secrecy.{Public, public-value, stepped-view}
+use Rattle.machine.proofs.Secrecy as secrecy
+use Rattle.machine.proofs.Plain.{stepped-same}
+use Rattle.machine.proofs.Plain as plain
+use Rattle.machine.proofs.Noninterference.{spaces-from}
+use Rattle.machine.proofs.Conditions.{when, no-division}
+
+-- ---- a division's operands must be public
+
+division-kind : (n : ℕ) → divides n ≡ true → kindOf n ≡ Kind.divide
+unfolding kindOf branches jumps divides member
+division-kind n d =
+    when n 35 (λ e. rw e refl) (λ n35. when n 36 (λ e. rw e refl) (λ n36. when n 37 (λ e. rw e refl) (λ n37. when n 38 (λ e. rw e refl) (λ n38.
+    absurd (true≢false (sym d ∙ no-division n n35 n36 n37 n38))))))
+
+-- what an operation must find public
+abbrev guarded : Operation → Memory → Bool
+guarded op labels = secret labels (sinks (kindOf (op .opcode)) op)
+
+operands-guarded : (labels : Memory) (op : Operation) → divides (op .opcode) ≡ true → guarded op labels ≡ secret labels (op .input0 ∷ op .input1 ∷ [])
+unfolding sinks secret
+operands-guarded labels op d =
+    let s0 : Bool = anySecret (bytesAt labels (op .input0)) in
+    let s1 : Bool = anySecret (bytesAt labels (op .input1)) in
+    rw (division-kind (op .opcode) d, or-false s0, or-false s1) (or-commutes s1 s0)
+
+operands-same : {labels m n : Memory} → Spaces Public labels m n → (program : Program) (i : ℕ)
+    → guarded (operationAt (program .list) i) labels ≡ false → operandsAt program i m ≡ operandsAt program i n
+unfolding operandsAt secret
+operands-same {labels} {m} {n} r program i h = by (divides (op .opcode)) refl
+  where
+    op : Operation
+    op = operationAt (program .list) i
+
+    by : (t : Bool) → divides (op .opcode) ≡ t
+        → cond t (valueAt (program .settings) m (op .input0) ∷ valueAt (program .settings) m (op .input1) ∷ []) []
+        ≡ cond t (valueAt (program .settings) n (op .input0) ∷ valueAt (program .settings) n (op .input1) ∷ []) []
+    by false d = refl
+    by true d =
+        let p = neither (anySecret (bytesAt labels (op .input0))) _ (sym (operands-guarded labels op d) ∙ h) in
+        let q = neither (anySecret (bytesAt labels (op .input1))) false (p .1) in
+        rw (public-value r (program .settings) (op .input0) (p .0), public-value r (program .settings) (op .input1) (q .0)) refl
+
+-- LEAK is looked at first
+leak-halts : (program : Program) (at : Position) (labels m : Memory) → guarded (operationAt (program .list) (at .index)) labels ≡ true
+    → execute program (operationAt (program .list) (at .index)) at labels m ≡ Stepped.halted (ended 31 0 at labels m)
+unfolding execute executeAs decided applyDecision endingOf
+leak-halts program at labels m h = rw h refl
+
+-- ---- two memories
+
+module _ (operands : List ℕ) (f : Position → Memory → Memory → List ℕ) where
+  after-leak : (program : Program) (at : Position) (labels m : Memory) → guarded (operationAt (program .list) (at .index)) labels ≡ true
+      → dividedAfter operands f (stepped program at labels m) ≡ []
+  unfolding dividedAfter stepped
+  after-leak program at labels m h =
+      either (λ (s : Stepped). dividedAfter operands f s ≡ []) (ltb (at .index) (operationCount (program .list))) _ _
+      (rw (leak-halts program at labels m h) refl) refl
+
+  after-view : ((at : Position) (labels m n : Memory) → Spaces Public labels m n → f at labels m ≡ f at labels n)
+      → {a b : Stepped} → secrecy.SameSteps a b → dividedAfter operands f a ≡ dividedAfter operands f b
+  unfolding dividedAfter
+  after-view h (secrecy.halts v) = refl
+  after-view h (secrecy.goes {at} {labels} {m} {n} r) = ap (λ (rest : List ℕ). operands ++ rest) (h at labels m n r)
+
+step-view : (program : Program) {labels m n : Memory} → Spaces Public labels m n → (at : Position) (f : Position → Memory → Memory → List ℕ)
+    → ((at : Position) (labels m n : Memory) → Spaces Public labels m n → f at labels m ≡ f at labels n)
+    → dividedAfter (operandsAt program (at .index) m) f (stepped program at labels m) ≡ dividedAfter (operandsAt program (at .index) n) f (stepped program at labels n)
+step-view program {labels} {m} {n} r at f h = by (guarded (operationAt (program .list) (at .index)) labels) refl
+  where
+    by : (t : Bool) → guarded (operationAt (program .list) (at .index)) labels ≡ t
+        → dividedAfter (operandsAt program (at .index) m) f (stepped program at labels m) ≡ dividedAfter (operandsAt program (at .index) n) f (stepped program at labels n)
+    by true g = after-leak _ f program at labels m g ∙ sym (after-leak _ f program at labels n g)
+    by false g = rw (operands-same r program (at .index) g) (after-view _ f h (stepped-view program r at))
+
+divided-view : (program : Program) (budget : ℕ) (at : Position) (labels m n : Memory) → Spaces Public labels m n
+    → divided program budget at labels m ≡ divided program budget at labels n
+unfolding divided
+divided-view program zero at labels m n r = refl
+divided-view program (suc budget) at labels m n r = step-view program r at (divided program budget) (λ at′ l m′ n′ r′. divided-view program budget at′ l m′ n′ r′)
+
+-- ---- the plain run
+
+after-same : (operands : List ℕ) (f : Position → Memory → Memory → List ℕ) (g : Position → Memory → Memory → Ended)
+    → ((at : Position) (labels m : Memory) → (g at labels m .ending ≡ 31 → ⊥) → f at unlabelled m ≡ f at labels m)
+    → {a b : Stepped} → plain.SameSteps a b → (continued g b .ending ≡ 31 → ⊥) → dividedAfter operands f a ≡ dividedAfter operands f b
+unfolding dividedAfter continued
+after-same operands f g h (plain.leaks e) ne = absurd (ne e)
+after-same operands f g h (plain.halts v) ne = refl
+after-same operands f g h (plain.goes {at} {labels} {m}) ne = ap (λ (rest : List ℕ). operands ++ rest) (h at labels m ne)
+
+divided-same : (program : Program) (budget : ℕ) (at : Position) (labels m : Memory) → (run program budget at labels m .ending ≡ 31 → ⊥)
+    → divided program budget at unlabelled m ≡ divided program budget at labels m
+unfolding divided run
+divided-same program zero at labels m ne = refl
+divided-same program (suc budget) at labels m ne =
+    after-same _ (divided program budget) (run program budget) (λ at′ l m′ ne′. divided-same program budget at′ l m′ ne′) (stepped-same program labels m at) ne
+
+pub public-divisions : PublicDivisions
+unfolding run stepped continued
+public-divisions = record {
+  stops = λ program budget at labels m l d s.
+      rw (lt-ltb (at .index) (operationCount (program .list)) l, leak-halts program at labels m (operands-guarded labels (operationAt (program .list) (at .index)) d ∙ s)) refl;
+  labelled = λ program budget at labels first second t l. divided-view program budget at labels first second (spaces-from t l);
+  plain = divided-same;
+}

@@ -1,0 +1,44 @@
+-- Division takes time by both operands: what a run divides does not depend on secret bytes.
+use Prim.Native.Nat.{ℕ, zero, suc, _<_}
+use mathlib.Core.Bool.{true, cond}
+use mathlib.Core.List.{List, [], _∷_, _++_}
+use mathlib.Core.Path.{_≡_}
+use Rattle.arithmetic.specs.Operands.{divides}
+use Rattle.operation.specs.Layout.{operationCount}
+use Rattle.machine.specs.Program.{Program}
+use Rattle.machine.specs.Memory.{Memory, lengthsOf, valueAt}
+use Rattle.machine.specs.Effect.{Operation, operationAt, secret}
+use Rattle.machine.specs.Run.{Position, Stepped, ended, stepped, run}
+use Rattle.machine.specs.Calls.{sameLengths, unlabelled}
+use Rattle.machine.specs.Noninterference.{LowEquivalent}
+
+-- The values of dividend and divisor, if operation i is INT_DIV, INT_REM, INT_SDIV or INT_SREM.
+unfoldable pub operandsAt : Program → (i : ℕ) → Memory → List ℕ
+operandsAt program i m =
+    let op : Operation = operationAt (program .list) i in
+    cond (divides (op .opcode)) (valueAt (program .settings) m (op .input0) ∷ valueAt (program .settings) m (op .input1) ∷ []) []
+
+-- The operands of an operation that goes on, and then those of the rest of the run. A stopped operation computes nothing.
+unfoldable pub dividedAfter : List ℕ → (Position → Memory → Memory → List ℕ) → Stepped → List ℕ
+dividedAfter operands f (Stepped.halted r) = []
+dividedAfter operands f (Stepped.going at labels m) = operands ++ f at labels m
+
+-- The operands of the divisions that a run executes, in order.
+unfoldable pub divided : Program → (budget : ℕ) → Position → (labels memory : Memory) → List ℕ
+divided program zero at labels m = []
+divided program (suc budget) at labels m = dividedAfter (operandsAt program (at .index) m) (divided program budget) (stepped program at labels m)
+
+-- All of these. A window is such a run too, so that they hold of what is executed ahead.
+pub record PublicDivisions : Type 0 where
+  -- LEAK stops a division of which a byte of an operand is secret, whatever the operands are: a divisor of 0 too.
+  pub stops : (program : Program) (budget : ℕ) (at : Position) (labels m : Memory) → at .index < operationCount (program .list)
+      → (let op = operationAt (program .list) (at .index) in
+      divides (op .opcode) ≡ true → secret labels (op .input0 ∷ op .input1 ∷ []) ≡ true
+      → run program (suc budget) at labels m ≡ ended 31 0 at labels m)
+  -- Two memories that agree in each byte labelled public divide the same numbers.
+  pub labelled : (program : Program) (budget : ℕ) (at : Position) (labels first second : Memory)
+      → sameLengths (lengthsOf labels) (lengthsOf first) ≡ true → LowEquivalent labels first second
+      → divided program budget at labels first ≡ divided program budget at labels second
+  -- Where the labelled run does not end with LEAK, the plain run divides these numbers too.
+  pub plain : (program : Program) (budget : ℕ) (at : Position) (labels m : Memory) → (run program budget at labels m .ending ≡ 31 → ⊥)
+      → divided program budget at unlabelled m ≡ divided program budget at labels m

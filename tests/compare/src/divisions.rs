@@ -1,0 +1,141 @@
+//! What runs did with divisions, counted, so that a test can ask for enough of each.
+
+use reference::bytes::ByteOrder;
+use reference::fault::{LEAK, ZERO};
+use reference::memory::{is_secret, value_of, Spaces, SECRET};
+use reference::opcodes::{Opcode, Operation};
+use reference::varnode::Varnode;
+
+use crate::counts::Counts;
+use crate::lists::entry_at;
+use crate::runs::Case;
+use crate::secrets::labels;
+use crate::wordsizes::varnodes;
+
+/// The operations that divide.
+pub const DIVISIONS: [Opcode; 4] =
+    [Opcode::IntDiv, Opcode::IntRem, Opcode::IntSdiv, Opcode::IntSrem];
+
+/// An operand of a division.
+#[derive(Clone, Copy, Debug, PartialEq, Eq, PartialOrd, Ord)]
+pub enum Operand {
+    Dividend,
+    Divisor,
+}
+
+/// Which operands have a secret byte, of a division that leaks.
+#[derive(Clone, Copy, Debug, PartialEq, Eq, PartialOrd, Ord)]
+pub enum Secret {
+    Dividend,
+    Divisor,
+    Both,
+}
+
+/// What can happen to divisions.
+#[derive(Clone, Copy, Debug, PartialEq, Eq, PartialOrd, Ord)]
+pub enum Event {
+    /// One or more in a run, executed or stopped.
+    Run,
+    Executed {
+        opcode: u8,
+    },
+    /// Stopped by ZERO.
+    Zero {
+        opcode: u8,
+    },
+    /// Stopped by LEAK.
+    Leak {
+        opcode: u8,
+        secret: Secret,
+    },
+    /// The same with a divisor of 0.
+    LeakAtZero {
+        opcode: u8,
+        secret: Secret,
+    },
+    /// Stopped by LEAK at a single secret byte of one operand, by its place among 8.
+    OneByte {
+        operand: Operand,
+        place: usize,
+    },
+}
+
+/// How often each event came.
+pub type Divisions = Counts<Event>;
+
+impl Divisions {
+    /// Counts an operation executed. Gives back whether it is a division.
+    pub fn count_executed(&mut self, opcode: Opcode) -> bool {
+        let divides = DIVISIONS.contains(&opcode);
+        self.add_those_that_came([(divides, Event::Executed { opcode: opcode as u8 })]);
+        divides
+    }
+
+    /// Counts what stopped a run, by what it left behind. Gives back whether that is a division.
+    pub fn count_stopped(&mut self, after: &Case, report: &[u64; 5]) -> bool {
+        let [ending, index, ..] = *report;
+        let is_stop = [LEAK, ZERO].contains(&ending);
+        let division = is_stop.then(|| Division::at(&after.call.program.list, index as usize));
+        let Some(division) = division.flatten() else { return false };
+        if ending == ZERO {
+            self.add(Event::Zero { opcode: division.opcode });
+        } else {
+            self.count_leak(&division, after);
+        }
+        true
+    }
+
+    fn count_leak(&mut self, division: &Division, after: &Case) {
+        let opcode = division.opcode;
+        // A stopped operation writes nothing, so its operands are what they were.
+        let labels = labels(&after.state);
+        let secret = division.secret(labels).expect("a secret byte where it leaks");
+        let order = ByteOrder::with_number(after.call.program.settings.order);
+        let order = order.expect("a run with good settings");
+        let is_zero = value_of(order, &after.state.memory, &division.divisor) == 0;
+        self.add(Event::Leak { opcode, secret });
+        self.add_those_that_came([(is_zero, Event::LeakAtZero { opcode, secret })]);
+        let (operand, varnode) = match secret {
+            Secret::Dividend => (Operand::Dividend, division.dividend),
+            Secret::Divisor => (Operand::Divisor, division.divisor),
+            Secret::Both => return,
+        };
+        if let ([place], 8) = (&secret_places(labels, &varnode)[..], varnode.size) {
+            self.add(Event::OneByte { operand, place: *place });
+        }
+    }
+}
+
+/// The places of an operand's secret bytes.
+fn secret_places(labels: &Spaces, operand: &Varnode) -> Vec<usize> {
+    let labels = labels.part(operand).iter().enumerate();
+    labels.filter(|(_, &label)| label == SECRET).map(|(place, _)| place).collect()
+}
+
+/// A division of a well-formed list.
+pub(crate) struct Division {
+    pub(crate) opcode: u8,
+    dividend: Varnode,
+    divisor: Varnode,
+}
+
+impl Division {
+    /// The division at an index, if the operation there is one.
+    pub(crate) fn at(list: &[u64], index: usize) -> Option<Division> {
+        let entry = entry_at(list, index);
+        let operation = Operation::with_number(u64::from(entry.opcode));
+        let [_, dividend, divisor, _] = varnodes(&entry);
+        let division = Division { opcode: entry.opcode, dividend, divisor };
+        operation.is_some_and(Operation::divides).then_some(division)
+    }
+
+    /// Which operands have a secret byte, if any has.
+    pub(crate) fn secret(&self, labels: &Spaces) -> Option<Secret> {
+        match [self.dividend, self.divisor].map(|operand| is_secret(labels, &operand)) {
+            [true, true] => Some(Secret::Both),
+            [true, false] => Some(Secret::Dividend),
+            [false, true] => Some(Secret::Divisor),
+            [false, false] => None,
+        }
+    }
+}

@@ -1,0 +1,290 @@
+//! Divisions whose operands have secret bytes, in runs, steps and windows and in the second program: random
+//! programs, a secret byte at each place of each operand, and operations that may read secret bytes.
+
+use compare::agreement::Tally;
+use compare::campaign::Campaign;
+use compare::divisions::{Divisions, Event, Operand, Secret, DIVISIONS};
+use compare::inputs::{largest_value, GOOD_ORDERS, SIZES};
+use compare::programs::Programs;
+use compare::runs::{check_run, Case, Job};
+use compare::speculations::{check_speculation, Speculation};
+use reference::answers::{LentWords, RunCall};
+use reference::bytes::{write, ByteOrder};
+use reference::fault::{LEAK, LEAK_AHEAD, ZERO};
+use reference::list::{list_of, Entry};
+use reference::machine::State;
+use reference::memory::{Spaces, PUBLIC, SECRET};
+use reference::opcodes::{Opcode, INTEGER_OPERATIONS};
+use reference::run::Program;
+use reference::speculative::Window;
+use reference::varnode::{Lengths, Varnode, Wordsizes, CONSTANT, RAM, REGISTER, UNIQUE};
+use reference::verdict::{Settings, END};
+
+const RANDOM_PROGRAMS: u64 = 270_000;
+/// How many of them should come to a division.
+const RUN_QUOTA: u64 = 200_000;
+/// How often each way to leak, each place of a secret byte and each other event should come.
+const LEAK_QUOTA: u64 = 500;
+const QUOTA: u64 = 200;
+/// How many operations with secret operands are tried, and how many of each opcode at least.
+const SECRET_OPERATIONS: u64 = 60_000;
+const OPCODE_QUOTA: u64 = 500;
+
+/// How often each event should come in random runs.
+fn assert_quotas(divisions: &Divisions, times: u64) {
+    divisions.assert_quota(Event::Run, RUN_QUOTA * times);
+    for opcode in DIVISIONS.map(|opcode| opcode as u8) {
+        divisions.assert_quota(Event::Executed { opcode }, LEAK_QUOTA);
+        divisions.assert_quota(Event::Zero { opcode }, LEAK_QUOTA);
+        for secret in [Secret::Dividend, Secret::Divisor, Secret::Both] {
+            divisions.assert_quota(Event::Leak { opcode, secret }, LEAK_QUOTA);
+            divisions.assert_quota(Event::LeakAtZero { opcode, secret }, QUOTA);
+        }
+    }
+    for operand in [Operand::Dividend, Operand::Divisor] {
+        for place in 0..8 {
+            divisions.assert_quota(Event::OneByte { operand, place }, QUOTA);
+        }
+    }
+}
+
+#[test]
+fn random_programs() {
+    const SEED: u64 = 0x5eed_0071;
+    let mut campaign = Campaign::new(SEED, RANDOM_PROGRAMS);
+    let mut tally = Tally::default();
+    let mut divisions = Divisions::default();
+    for (_, random) in campaign.by_ref() {
+        let Case { call, mut state } = Programs::new(random).division_case();
+        let mut divided = false;
+        let observer = |opcode| divided |= divisions.count_executed(opcode);
+        let report = check_run(Job::Run, &call, &mut state, LentWords::EXACT, observer);
+        let report = report.expect("a report of five words");
+        tally.count(report[0]);
+        divided |= divisions.count_stopped(&Case { call, state }, &report);
+        divisions.add_those_that_came([(divided, Event::Run)]);
+    }
+    println!(
+        "labelled run, random programs with divisions: {campaign}, {tally}\n\
+         labelled run, divisions: {divisions}"
+    );
+    if campaign.is_whole() {
+        assert_quotas(&divisions, campaign.times());
+    }
+}
+
+/// A division of two operands, each with its value and the place of its secret byte, if it has one.
+#[derive(Clone, Copy, Debug)]
+struct Division {
+    opcode: Opcode,
+    order: u64,
+    dividend: Varnode,
+    divisor: Varnode,
+    /// What the operands in memory hold: the divisor is written last, where they overlap.
+    values: [u64; 2],
+    /// A secret byte of memory for each operand; all other bytes of the operands are public.
+    secret: [Option<Varnode>; 2],
+    leaks: bool,
+    by_zero: bool,
+}
+
+/// A word of log and journal as it is lent.
+const LENT_WORD: u64 = 7;
+
+impl Division {
+    /// The labelled case of a list. Bytes that are of no operand are secret.
+    fn case(&self, entries: &[Entry]) -> Case {
+        let settings = Settings { order: self.order, address_size: 8, wordsizes: Wordsizes::ONE };
+        let lengths = Lengths { unique: 26, register: 14, ram: 12 };
+        let mut memory = Spaces::of_lengths(&lengths);
+        let mut labels = memory.clone();
+        labels.all_mut().into_iter().for_each(|space| space.fill(SECRET));
+        let order = ByteOrder::with_number(self.order).expect("a good byte order");
+        for (operand, value) in [(self.dividend, self.values[0]), (self.divisor, self.values[1])] {
+            if operand.space != CONSTANT {
+                write(order, value, memory.part_mut(&operand));
+                labels.part_mut(&operand).fill(PUBLIC);
+            }
+        }
+        for byte in self.secret.iter().flatten() {
+            labels.part_mut(byte).fill(SECRET);
+        }
+        let program = Program { settings, list: list_of(entries) };
+        let call = RunCall { program, start: 0, budget: 9 };
+        Case { call, state: State { memory, labels: Some(labels), log: vec![LENT_WORD; 2] } }
+    }
+
+    fn entry(&self) -> Entry {
+        let output = Varnode { space: RAM, offset: 3, size: self.dividend.size };
+        let varnodes = [Some(output), Some(self.dividend), Some(self.divisor), None];
+        Entry::new(self.opcode as u8, varnodes)
+    }
+
+    /// Compares the division as run and as step, and in a window and behind an empty one.
+    fn check(&self, tally: &mut Tally) {
+        let alone = self.case(&[self.entry()]);
+        let report = match (self.leaks, self.by_zero) {
+            (true, _) => [LEAK, 0, 0, 0, 0],
+            (false, true) => [ZERO, 0, 0, 0, 0],
+            (false, false) => [END, 1, 1, 0, 0],
+        };
+        for job in [Job::Run, Job::Step] {
+            let mut after = alone.clone();
+            let found = check_run(job, &after.call, &mut after.state, LentWords::EXACT, |_| ());
+            assert_eq!(found, Some(report), "{job:?} of {self:x?}");
+            let is_stopped = report[0] != END;
+            assert!(!is_stopped || after.state == alone.state, "{job:?} of {self:x?} wrote");
+            tally.count(report[0]);
+        }
+        self.check_windows(tally);
+    }
+
+    /// Compares it behind a CBRANCH that leaves it out.
+    fn check_windows(&self, tally: &mut Tally) {
+        let past_it = Varnode { space: CONSTANT, offset: 2, size: 1 };
+        let taken = Varnode { space: CONSTANT, offset: 1, size: 1 };
+        let cbranch = Entry::new(Opcode::Cbranch as u8, [None, Some(past_it), Some(taken), None]);
+        let case = self.case(&[cbranch, self.entry()]);
+        for operations in [0, 1] {
+            let window = Window { operations, journal: vec![LENT_WORD; 4] };
+            let mut after = Speculation { case: case.clone(), window };
+            let found = check_speculation(&mut after, LentWords::EXACT, |_| ());
+            let leaks_ahead = self.leaks && operations == 1;
+            let report = if leaks_ahead { [LEAK_AHEAD, 0, 0, 1, 0] } else { [END, 2, 1, 1, 0] };
+            assert_eq!(found, Some(report), "a window of {operations} at {self:x?}");
+            let State { memory, labels, .. } = after.case.state;
+            let is_undone = memory == case.state.memory && labels == case.state.labels;
+            assert!(is_undone, "a window of {operations} at {self:x?} left something");
+            tally.count(report[0]);
+        }
+    }
+}
+
+/// The four divisions in both byte orders, with operands of each size in two spaces. Nothing is secret.
+fn all_divisions() -> impl Iterator<Item = Division> {
+    let of = |opcode, order, size| Division {
+        opcode,
+        order,
+        dividend: Varnode { space: UNIQUE, offset: 9, size },
+        divisor: Varnode { space: REGISTER, offset: 5, size },
+        values: [largest_value(size) / 2 + 5, 1],
+        secret: [None; 2],
+        leaks: false,
+        by_zero: false,
+    };
+    DIVISIONS.into_iter().flat_map(move |opcode| {
+        GOOD_ORDERS
+            .into_iter()
+            .flat_map(move |order| SIZES.map(move |size| of(opcode, order, size)))
+    })
+}
+
+/// No byte of a varnode, and each byte alone.
+fn none_and_each_byte(varnode: Varnode) -> impl Iterator<Item = Option<Varnode>> {
+    let byte = move |place| Varnode { offset: varnode.offset + place, size: 1, ..varnode };
+    [None].into_iter().chain((0..varnode.size).map(move |place| Some(byte(place))))
+}
+
+#[test]
+fn a_secret_byte_at_each_place_of_dividend_and_divisor() {
+    let mut tally = Tally::default();
+    for division in all_divisions() {
+        for dividend in none_and_each_byte(division.dividend) {
+            for divisor in none_and_each_byte(division.divisor) {
+                for value in [0, 1, largest_value(division.divisor.size)] {
+                    Division {
+                        values: [division.values[0], value],
+                        secret: [dividend, divisor],
+                        leaks: dividend.is_some() || divisor.is_some(),
+                        by_zero: value == 0,
+                        ..division
+                    }
+                    .check(&mut tally);
+                }
+            }
+        }
+    }
+    tally.assert_numbers(&[END, LEAK, ZERO, LEAK_AHEAD]);
+    println!("division, a secret byte at each place of each operand: {tally}");
+}
+
+#[test]
+fn operands_that_overlap() {
+    let mut tally = Tally::default();
+    for division in all_divisions() {
+        let dividend = division.dividend;
+        let size = dividend.size;
+        for offset in dividend.offset - size..=dividend.offset + size {
+            let divisor = Varnode { offset, ..dividend };
+            let union_start = offset.min(dividend.offset);
+            let union_end = offset.max(dividend.offset) + size;
+            for secret in (union_start..union_end).map(Some).chain([None]) {
+                for value in [0, 1] {
+                    let byte = secret.map(|offset| Varnode { offset, size: 1, ..dividend });
+                    Division {
+                        divisor,
+                        values: [division.values[0], value],
+                        secret: [byte, None],
+                        leaks: secret.is_some(),
+                        by_zero: value == 0,
+                        ..division
+                    }
+                    .check(&mut tally);
+                }
+            }
+        }
+    }
+    tally.assert_numbers(&[END, LEAK, ZERO, LEAK_AHEAD]);
+    println!("division, operands that overlap: {tally}");
+}
+
+#[test]
+fn constants_are_public() {
+    let mut tally = Tally::default();
+    for division in all_divisions() {
+        for value in [0, 1] {
+            let values = [division.values[0], value];
+            let [constant0, constant1] = values.map(|offset| Varnode {
+                space: CONSTANT,
+                offset,
+                size: division.dividend.size,
+            });
+            let by_zero = value == 0;
+            let both =
+                Division { dividend: constant0, divisor: constant1, values, by_zero, ..division };
+            both.check(&mut tally);
+            for secret in none_and_each_byte(division.divisor) {
+                let divisor = division.divisor;
+                Division { divisor, secret: [None, secret], leaks: secret.is_some(), ..both }
+                    .check(&mut tally);
+            }
+            for secret in none_and_each_byte(division.dividend) {
+                let dividend = division.dividend;
+                Division { dividend, secret: [secret, None], leaks: secret.is_some(), ..both }
+                    .check(&mut tally);
+            }
+        }
+    }
+    tally.assert_numbers(&[END, LEAK, ZERO, LEAK_AHEAD]);
+    println!("division, constant operands: {tally}");
+}
+
+#[test]
+fn no_other_integer_operation_leaks() {
+    const SEED: u64 = 0x5eed_0072;
+    let mut campaign = Campaign::new(SEED, SECRET_OPERATIONS);
+    let mut executed = Tally::default();
+    for (_, random) in campaign.by_ref() {
+        let Case { call, mut state } = Programs::new(random).secret_case();
+        let count = |opcode| executed.count(opcode as u64);
+        let report = check_run(Job::Run, &call, &mut state, LentWords::EXACT, count);
+        assert_eq!(report, Some([END, 1, 1, 0, 0]), "{}", Case { call, state });
+    }
+    println!("labelled run, other operations on secret bytes: {campaign}, {executed}");
+    if campaign.is_whole() {
+        let others = INTEGER_OPERATIONS.iter().filter(|operation| !operation.divides());
+        let others: Vec<u64> = others.map(|operation| operation.number()).collect();
+        executed.assert_numbers(&others);
+        executed.assert_quota(&others, OPCODE_QUOTA);
+    }
+}
