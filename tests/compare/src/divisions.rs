@@ -1,14 +1,16 @@
 //! What runs did with divisions, counted, so that a test can ask for enough of each.
 
+use reference::answers::RunCall;
 use reference::bytes::ByteOrder;
 use reference::fault::{LEAK, ZERO};
 use reference::memory::{is_secret, value_of, Spaces, SECRET};
 use reference::opcodes::{Opcode, Operation};
+use reference::run::BUDGET;
 use reference::varnode::Varnode;
 
 use crate::counts::Counts;
 use crate::lists::entry_at;
-use crate::runs::Case;
+use crate::runs::{interpreter_report, Case, Job};
 use crate::secrets::labels;
 use crate::wordsizes::varnodes;
 
@@ -90,9 +92,8 @@ impl Divisions {
         // A stopped operation writes nothing, so its operands are what they were.
         let labels = labels(&after.state);
         let secret = division.secret(labels).expect("a secret byte where it leaks");
-        let order = ByteOrder::with_number(after.call.program.settings.order);
-        let order = order.expect("a run with good settings");
-        let is_zero = value_of(order, &after.state.memory, &division.divisor) == 0;
+        let [_, divisor] = division.values(after);
+        let is_zero = divisor == 0;
         self.add(Event::Leak { opcode, secret });
         self.add_those_that_came([(is_zero, Event::LeakAtZero { opcode, secret })]);
         let (operand, varnode) = match secret {
@@ -104,6 +105,26 @@ impl Divisions {
             self.add(Event::OneByte { operand, place: *place });
         }
     }
+}
+
+/// The operands of the divisions that a case executes, by single steps of the interpreter, and how the
+/// last of at most so many steps ended. The case keeps every rule.
+pub fn divided(mut case: Case, most_steps: u64) -> (Vec<[u64; 2]>, u64) {
+    let mut operands = vec![];
+    for _ in 0..most_steps {
+        let RunCall { program, start, .. } = &case.call;
+        let is_operation = *start < program.count();
+        let division = is_operation.then(|| Division::at(&program.list, *start as usize)).flatten();
+        let values = division.map(|division| division.values(&case));
+        let [ending, index, executed, words, _] = interpreter_report(Job::Step, &mut case);
+        operands.extend(values.filter(|_| executed == 1));
+        if ending != BUDGET {
+            return (operands, ending);
+        }
+        case.call.start = index;
+        case.state.log.drain(..words as usize);
+    }
+    (operands, BUDGET)
 }
 
 /// The places of an operand's secret bytes.
@@ -127,6 +148,13 @@ impl Division {
         let [_, dividend, divisor, _] = varnodes(&entry);
         let division = Division { opcode: entry.opcode, dividend, divisor };
         operation.is_some_and(Operation::divides).then_some(division)
+    }
+
+    /// The values of dividend and divisor.
+    fn values(&self, case: &Case) -> [u64; 2] {
+        let order = ByteOrder::with_number(case.call.program.settings.order);
+        let order = order.expect("a run with good settings");
+        [self.dividend, self.divisor].map(|operand| value_of(order, &case.state.memory, &operand))
     }
 
     /// Which operands have a secret byte, if any has.

@@ -256,6 +256,7 @@ fn secret_bytes_do_not_show_in_divisions() {
         let observer = |opcode| divided |= divisions.count_executed(opcode);
         check_run(Job::Run, &call, &mut state, LentWords::EXACT, observer);
         divisions.add_those_that_came([(divided, divisions::Event::Run)]);
+        check_divided(&pair);
     }
     println!(
         "labelled run, pairs of memories with other secret bytes and divisions: {campaign}, {tally}\n\
@@ -267,6 +268,23 @@ fn secret_bytes_do_not_show_in_divisions() {
             let leak = divisions::Event::Leak { opcode, secret: Secret::Dividend };
             divisions.assert_quota(leak, ENDING_QUOTA);
             divisions.assert_quota(divisions::Event::Executed { opcode }, ENDING_QUOTA);
+        }
+    }
+}
+
+/// Fails unless a case and the same with other secret bytes divide the same numbers, step by step, and the
+/// plain steps do too, where no labelled one is LEAK.
+fn check_divided(pair: &[Case; 2]) {
+    const MOST_STEPS: u64 = 20;
+    let [one, other] = pair.each_ref().map(|case| divisions::divided(case.clone(), MOST_STEPS));
+    assert_eq!(one, other, "what is divided in\n{}and in\n{}", pair[0], pair[1]);
+    if one.1 != LEAK {
+        for case in pair {
+            assert_eq!(
+                divisions::divided(case.plain(), MOST_STEPS),
+                one,
+                "plain and labelled\n{case}"
+            );
         }
     }
 }
