@@ -22,6 +22,10 @@ pub or-false : (t : Bool) → t || false ≡ t
 or-false true = refl
 or-false false = refl
 
+pub and-false : (t : Bool) → t && false ≡ false
+and-false true = refl
+and-false false = refl
+
 pub or-commutes : (s t : Bool) → s || t ≡ t || s
 or-commutes true true = refl
 or-commutes true false = refl

@@ -74,9 +74,14 @@ pub one-secret : (labels : Memory) (v : Varnode) → secret labels (v ∷ []) �
 unfolding secret
 one-secret labels v = or-false (anySecret (bytesAt labels v)) ∙ has-secret labels v
 
-two-secret : (labels : Memory) (u v : Varnode) → secret labels (u ∷ v ∷ []) ≡ hasSecret labels u || hasSecret labels v
+pub two-secret : (labels : Memory) (u v : Varnode) → secret labels (u ∷ v ∷ []) ≡ hasSecret labels u || hasSecret labels v
 unfolding secret
 two-secret labels u v = rw (or-false, has-secret labels u, has-secret labels v) refl
+
+-- what a division must find public
+pub division-secret : (labels : Memory) (op : Operation) → secret labels (sinks Kind.divide op) ≡ hasSecret labels (op .input1) || hasSecret labels (op .input0)
+unfolding sinks
+division-secret labels op = two-secret labels (op .input1) (op .input0)
 
 -- ---- the bytes written
 
@@ -312,7 +317,7 @@ module _ (program : Program) (op : Operation) (at : Position) (labels m : Memory
   unfolding exactStep exactStepWith labelsAfter exactStepBy positionAfter
   exactStep-by = refl
 
-  -- what a kind writes, with x as the value of what must be public, is what is told
+  -- what a kind writes, with x as the value of what is tested, is what is told
   record Writes (k : Kind) (x : ℕ) (place : Varnode) (hidden : Bool) (value : ℕ) : Type 0 where
     labelled : written labels (target k op x) (labelsWritten (target k op x .size) (sources k op x) labels)
         ≡ written labels place (replicate (place .size) (flag hidden))
@@ -351,8 +356,8 @@ module _ (program : Program) (op : Operation) (at : Position) (labels m : Memory
     divided : next ≡ suc (at .index) → Writes Kind.divide value1 place hidden value
         → executeAs program Kind.divide op at labels m
         ≡ exactStepBy (hasSecret labels (op .input1) || hasSecret labels (op .input0)) false (eqb value1 0) false false word to next place hidden value
-    unfolding executeAs sinks resolvedValue resolved tested exactStepBy applyDecision decided checked endingOf
-    divided n w = rw (two-secret labels (op .input1) (op .input0), n) (by (hasSecret labels (op .input1) || hasSecret labels (op .input0)) (eqb value1 0))
+    unfolding executeAs resolvedValue resolved tested exactStepBy applyDecision decided checked endingOf
+    divided n w = rw (division-secret labels op, n) (by (hasSecret labels (op .input1) || hasSecret labels (op .input0)) (eqb value1 0))
       where
         by : (t z : Bool) → applyDecision program Kind.divide op at labels m value1
             (cond t (Decision.stop Stop.leak) (cond z (Decision.stop Stop.zeroDivisor) (Decision.next [] (suc (at .index)))))

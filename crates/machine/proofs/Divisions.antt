@@ -5,17 +5,23 @@ use mathlib.Core.Bool.{Bool, true, false, cond, true≢false}
 use mathlib.Core.List.{List, [], _∷_, _++_}
 use borrow.Author.Tests.{lt-ltb}
 use lib.Dec.{ltb}
-use Rattle.integer.proofs.Booleans.{or-false, or-commutes, neither}
+use Rattle.integer.proofs.Booleans.{or-commutes, neither}
+use Rattle.word.specs.Sum.{sum, tabulate, digit}
+use Rattle.word.specs.Word.{part, significance, valueOf, bytesOf}
+use Rattle.integer.specs.Operations.{intDiv}
 use Rattle.arithmetic.specs.Opcodes.{member}
 use Rattle.arithmetic.specs.Operands.{divides}
-use Rattle.operation.specs.Layout.{operationCount}
+use Rattle.arithmetic.specs.Result.{lookup, integerResults, result}
+use Rattle.operation.specs.Layout.{operationCount, wordAt, headByte, opcodeAt, descriptorAt, offsetAt, describedBy, varnodeAt}
 use Rattle.operation.specs.Rules.{branches, jumps}
-use Rattle.machine.specs.Program.{Program}
-use Rattle.machine.specs.Memory.{Memory, bytesAt, valueAt}
-use Rattle.machine.specs.Effect.{Operation, Kind, operationAt, kindOf, sinks, anySecret, secret}
-use Rattle.machine.specs.Run.{Position, Ended, Stepped, endingOf, ended, decided, applyDecision, executeAs, execute, stepped, continued, run}
-use Rattle.machine.specs.Calls.{unlabelled}
-use Rattle.machine.specs.Divisions.{operandsAt, dividedAfter, divided, PublicDivisions}
+use Rattle.machine.specs.Program.{Program, bigEndian}
+use Rattle.machine.specs.Memory.{Memory, spaces, spaceOf, withSpace, bytesAt, written, valueAt}
+use Rattle.machine.specs.Effect.{Operation, Kind, operationAt, kindOf, sinks, tested, resolved, sources, target, moves, valuesOf, computed, bytesWritten}
+use Rattle.machine.specs.Effect.{anySecret, secret, labelsWritten}
+use Rattle.machine.specs.Run.{Position, Ended, Stepped, endingOf, checked, decided, advanced, ended, resolvedValue, applyDecision, executeAs, execute, stepped, continued, run}
+use Rattle.machine.specs.Calls.{starting, unlabelled}
+use Rattle.machine.specs.Conditions.{hasSecret}
+use Rattle.machine.specs.Divisions.{operandsAt, dividedAfter, divided, twoDivisions, PublicDivisions}
 use Rattle.machine.proofs.Cases.{either}
 use Rattle.machine.proofs.Pointwise.{Spaces}
 use Rattle.machine.proofs.Secrecy.{Public, public-value, stepped-view}
@@ -23,7 +29,7 @@ use Rattle.machine.proofs.Secrecy as secrecy
 use Rattle.machine.proofs.Plain.{stepped-same}
 use Rattle.machine.proofs.Plain as plain
 use Rattle.machine.proofs.Noninterference.{spaces-from}
-use Rattle.machine.proofs.Conditions.{when, no-division}
+use Rattle.machine.proofs.Conditions.{when, no-division, two-secret, division-secret}
 
 -- ---- a division's operands must be public
 
@@ -34,17 +40,16 @@ division-kind n d =
     absurd (true≢false (sym d ∙ no-division n n35 n36 n37 n38))))))
 
 -- what an operation must find public
-abbrev guarded : Operation → Memory → Bool
+abbrev pub guarded : Operation → Memory → Bool
 guarded op labels = secret labels (sinks (kindOf (op .opcode)) op)
 
 operands-guarded : (labels : Memory) (op : Operation) → divides (op .opcode) ≡ true → guarded op labels ≡ secret labels (op .input0 ∷ op .input1 ∷ [])
-unfolding sinks secret
 operands-guarded labels op d =
-    let s0 : Bool = anySecret (bytesAt labels (op .input0)) in
-    let s1 : Bool = anySecret (bytesAt labels (op .input1)) in
-    rw (division-kind (op .opcode) d, or-false s0, or-false s1) (or-commutes s1 s0)
+    ap (λ (k : Kind). secret labels (sinks k op)) (division-kind (op .opcode) d)
+    ∙ division-secret labels op ∙ or-commutes (hasSecret labels (op .input1)) (hasSecret labels (op .input0))
+    ∙ sym (two-secret labels (op .input0) (op .input1))
 
-operands-same : {labels m n : Memory} → Spaces Public labels m n → (program : Program) (i : ℕ)
+pub operands-same : {labels m n : Memory} → Spaces Public labels m n → (program : Program) (i : ℕ)
     → guarded (operationAt (program .list) i) labels ≡ false → operandsAt program i m ≡ operandsAt program i n
 unfolding operandsAt secret
 operands-same {labels} {m} {n} r program i h = by (divides (op .opcode)) refl
@@ -70,14 +75,14 @@ leak-halts program at labels m h = rw h refl
 -- ---- two memories
 
 module _ (operands : List ℕ) (f : Position → Memory → Memory → List ℕ) where
-  after-leak : (program : Program) (at : Position) (labels m : Memory) → guarded (operationAt (program .list) (at .index)) labels ≡ true
+  pub after-leak : (program : Program) (at : Position) (labels m : Memory) → guarded (operationAt (program .list) (at .index)) labels ≡ true
       → dividedAfter operands f (stepped program at labels m) ≡ []
   unfolding dividedAfter stepped
   after-leak program at labels m h =
       either (λ (s : Stepped). dividedAfter operands f s ≡ []) (ltb (at .index) (operationCount (program .list))) _ _
       (rw (leak-halts program at labels m h) refl) refl
 
-  after-view : ((at : Position) (labels m n : Memory) → Spaces Public labels m n → f at labels m ≡ f at labels n)
+  pub after-view : ((at : Position) (labels m n : Memory) → Spaces Public labels m n → f at labels m ≡ f at labels n)
       → {a b : Stepped} → secrecy.SameSteps a b → dividedAfter operands f a ≡ dividedAfter operands f b
   unfolding dividedAfter
   after-view h (secrecy.halts v) = refl
@@ -93,7 +98,7 @@ step-view program {labels} {m} {n} r at f h = by (guarded (operationAt (program 
     by true g = after-leak _ f program at labels m g ∙ sym (after-leak _ f program at labels n g)
     by false g = rw (operands-same r program (at .index) g) (after-view _ f h (stepped-view program r at))
 
-divided-view : (program : Program) (budget : ℕ) (at : Position) (labels m n : Memory) → Spaces Public labels m n
+pub divided-view : (program : Program) (budget : ℕ) (at : Position) (labels m n : Memory) → Spaces Public labels m n
     → divided program budget at labels m ≡ divided program budget at labels n
 unfolding divided
 divided-view program zero at labels m n r = refl
@@ -116,9 +121,26 @@ divided-same program zero at labels m ne = refl
 divided-same program (suc budget) at labels m ne =
     after-same _ (divided program budget) (run program budget) (λ at′ l m′ ne′. divided-same program budget at′ l m′ ne′) (stepped-same program labels m at) ne
 
+-- ---- what is told is what is read, in order
+
+operands-read : (program : Program) (i x : ℕ) (m : Memory)
+    → (let op = operationAt (program .list) i in
+    divides (op .opcode) ≡ true → operandsAt program i m ≡ valuesOf (program .settings) m (sources (kindOf (op .opcode)) op x))
+unfolding operandsAt sources valuesOf
+operands-read program i x m d = rw (d, division-kind (operationAt (program .list) i .opcode) d) refl
+
+in-order : divided twoDivisions 2 (starting 0 0) unlabelled (spaces [] (0xf9 ∷ 0x02 ∷ 0xaa ∷ 0xaa ∷ []) []) ≡ 0xf9 ∷ 0x02 ∷ 0x7c ∷ 0x02 ∷ []
+unfolding sum tabulate digit part significance valueOf bytesOf intDiv member divides lookup integerResults result operationCount wordAt headByte
+    opcodeAt descriptorAt offsetAt describedBy varnodeAt branches jumps spaceOf withSpace bytesAt written valueAt operationAt kindOf sinks tested
+    resolved sources target moves valuesOf computed bytesWritten anySecret secret labelsWritten checked decided advanced resolvedValue bigEndian
+    applyDecision executeAs execute stepped starting unlabelled operandsAt dividedAfter divided
+in-order = refl
+
 pub public-divisions : PublicDivisions
 unfolding run stepped continued
 public-divisions = record {
+  reads = operands-read;
+  inOrder = in-order;
   stops = λ program budget at labels m l d s.
       rw (lt-ltb (at .index) (operationCount (program .list)) l, leak-halts program at labels m (operands-guarded labels (operationAt (program .list) (at .index)) d ∙ s)) refl;
   labelled = λ program budget at labels first second t l. divided-view program budget at labels first second (spaces-from t l);

@@ -5,12 +5,13 @@ use mathlib.Core.List.{List, [], _∷_, _++_}
 use mathlib.Core.Path.{_≡_}
 use Rattle.arithmetic.specs.Operands.{divides}
 use Rattle.operation.specs.Layout.{operationCount}
-use Rattle.machine.specs.Program.{Program}
-use Rattle.machine.specs.Memory.{Memory, lengthsOf, valueAt}
-use Rattle.machine.specs.Effect.{Operation, operationAt, secret}
+use Rattle.machine.specs.Program.{Program, programOf}
+use Rattle.machine.specs.Memory.{Memory, spaces, lengthsOf, valueAt}
+use Rattle.machine.specs.Effect.{Operation, operationAt, kindOf, sources, valuesOf, secret}
 use Rattle.machine.specs.Run.{Position, Stepped, ended, stepped, run}
-use Rattle.machine.specs.Calls.{sameLengths, unlabelled}
+use Rattle.machine.specs.Calls.{starting, sameLengths, unlabelled}
 use Rattle.machine.specs.Noninterference.{LowEquivalent}
+use Rattle.machine.specs.Marked.{words, settings}
 
 -- The values of dividend and divisor, if operation i is INT_DIV, INT_REM, INT_SDIV or INT_SREM.
 unfoldable pub operandsAt : Program → (i : ℕ) → Memory → List ℕ
@@ -28,8 +29,18 @@ unfoldable pub divided : Program → (budget : ℕ) → Position → (labels mem
 divided program zero at labels m = []
 divided program (suc budget) at labels m = dividedAfter (operandsAt program (at .index) m) (divided program budget) (stepped program at labels m)
 
--- All of these. A window is such a run too, so that they hold of what is executed ahead.
+-- Two divisions of 1 byte in the register space: byte 2 = byte 0 by byte 1, INT_DIV; byte 3 = byte 2 by byte 1, INT_REM.
+abbrev pub twoDivisions : Program
+twoDivisions = programOf (settings 0) (words 0x31313123 2 0 1 ++ words 0x31313124 3 2 1)
+
+-- All of these.
 pub record PublicDivisions : Type 0 where
+  -- The operands told are the values that the operation reads; `x` is no division's.
+  pub reads : (program : Program) (i x : ℕ) (m : Memory)
+      → (let op = operationAt (program .list) i in
+      divides (op .opcode) ≡ true → operandsAt program i m ≡ valuesOf (program .settings) m (sources (kindOf (op .opcode)) op x))
+  -- Each is told where it is executed, in order: f9 by 02, and what that gave, 7c, by 02.
+  pub inOrder : divided twoDivisions 2 (starting 0 0) unlabelled (spaces [] (0xf9 ∷ 0x02 ∷ 0xaa ∷ 0xaa ∷ []) []) ≡ 0xf9 ∷ 0x02 ∷ 0x7c ∷ 0x02 ∷ []
   -- LEAK stops a division of which a byte of an operand is secret, whatever the operands are: a divisor of 0 too.
   pub stops : (program : Program) (budget : ℕ) (at : Position) (labels m : Memory) → at .index < operationCount (program .list)
       → (let op = operationAt (program .list) (at .index) in

@@ -6,6 +6,7 @@ use mathlib.Core.List.{List, [], _∷_}
 use borrow.Author.Tests.{lt-ltb}
 use lib.Dec.{eqb, ltb}
 use Rattle.word.specs.Word.{bytesOf}
+use Rattle.integer.proofs.Booleans.{and-false}
 use Rattle.arithmetic.specs.Opcodes.{member}
 use Rattle.operation.specs.declared.layout.Varnode.{Varnode}
 use Rattle.operation.specs.Layout.{operationCount}
@@ -65,10 +66,6 @@ module _ (program : Program) (op : Operation) (a b : ℕ) (at : Position) (label
       by false false true ew false ef false = rw (ew, ef) refl
       by false false false ew f ef true = rw ew refl
       by false false false ew f ef false = rw ew refl
-
-and-false : (t : Bool) → t && false ≡ false
-and-false true = refl
-and-false false = refl
 
 -- nothing leaks without labels
 no-leak : (op : Operation) → leaks unlabelled op ≡ false

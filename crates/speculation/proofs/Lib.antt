@@ -1,5 +1,6 @@
 pub mod Accepted
 pub mod Noninterference
+pub mod Divisions
 pub mod Below
 pub mod NoWindow
 pub mod Windows

@@ -8,6 +8,7 @@ use mathlib.Core.Path.{_≡_, refl, _∙_}
 use borrow.Author.Tests.{eqb-false, le-leb, lt-leb}
 use lib.Dec.{eqb, leb}
 use lib.ListN.{length, drop, replicate, length-append, length-drop, length-replicate, getD-replicate, List·getD-append}
+use Rattle.integer.proofs.Booleans.{and-false}
 use Rattle.operation.specs.declared.layout.Settings.{Settings}
 use Rattle.operation.specs.declared.layout.Lengths.{Lengths}
 use Rattle.operation.specs.declared.report.Report.{Report}
@@ -33,10 +34,6 @@ use Rattle.speculation.proofs.Runs.{speculate-repeats, speculated-count
 
 -- ---- refusals
 
-no-words : (t : Bool) → t && false ≡ false
-no-words true = refl
-no-words false = refl
-
 at-their-place : (settings : Settings) (lengths : Lengths) (list : List ℕ) (start window words : ℕ) (fitting valid : Bool)
     → AtTheirPlace settings lengths list start window words fitting valid
 unfolding speculativeRefusal mostAhead journalWords
@@ -45,7 +42,7 @@ at-their-place settings lengths list start window words fitting valid = record {
   settingRefused = λ s. either-equal (leb window mostAhead) (refusals-in-order settings lengths list start (leb (journalWords window) words && fitting) valid .settingRefused s) refl;
   journalRefused = λ w s j.
       rw (le-leb window mostAhead w, lt-leb (journalWords window) words j)
-      (refusals-in-order settings lengths list start false valid .lengthRefused s (no-words (lengthsInRange lengths list)));
+      (refusals-in-order settings lengths list start false valid .lengthRefused s (and-false (lengthsInRange lengths list)));
   otherwise = ahead-refusal settings lengths list start window words fitting valid;
 }
 

@@ -28,12 +28,12 @@ use Rattle.speculation.proofs.Accepted.{ahead-refuses, ahead-accepted}
 
 -- ---- what two operations that cannot be told apart share
 
-same-passed : {a b : Stepped} → SameSteps a b → passed a ≡ passed b
+pub same-passed : {a b : Stepped} → SameSteps a b → passed a ≡ passed b
 unfolding passed
 same-passed (halts v) = rw (v .ending) refl
 same-passed (goes r) = refl
 
-same-reached : {a b : Stepped} → SameSteps a b → reached a ≡ reached b
+pub same-reached : {a b : Stepped} → SameSteps a b → reached a ≡ reached b
 unfolding reached
 same-reached (halts v) = v .position
 same-reached (goes r) = refl
@@ -62,7 +62,7 @@ unfolding decided applyDecision passed ended endingOf
 decided-public program k op at labels m true i extent room x e = absurd (let z : _≡_ {A = ℕ} 31 1 = eqb-true 31 1 e in omega (arith, z))
 decided-public program k op at labels m false i extent room x e = refl
 
-stepped-public : (program : Program) (at : Position) (labels m : Memory) → passed (stepped program at labels m) ≡ true
+pub stepped-public : (program : Program) (at : Position) (labels m : Memory) → passed (stepped program at labels m) ≡ true
     → (let op = operationAt (program .list) (at .index) in secret labels (sinks (kindOf (op .opcode)) op) ≡ false)
 unfolding stepped execute executeAs passed ended
 stepped-public program at labels m = by (ltb (at .index) (operationCount (program .list)))
@@ -79,7 +79,7 @@ stepped-public program at labels m = by (ltb (at .index) (operationCount (progra
 
 module _ (program : Program) {labels m n : Memory} (r : Spaces Public labels m n) where
   -- the other way of a CBRANCH that has passed its checks is the same
-  same-way : (at : Position) → (let op = operationAt (program .list) (at .index) in
+  pub same-way : (at : Position) → (let op = operationAt (program .list) (at .index) in
       eqb (op .opcode) 5 && passed (stepped program at labels m) ≡ true
       → otherWay op (at .index) (valueAt (program .settings) m (op .input1)) ≡ otherWay op (at .index) (valueAt (program .settings) n (op .input1)))
   unfolding sinks tested kindOf
@@ -110,7 +110,7 @@ module _ (program : Program) {labels m n : Memory} (r : Spaces Public labels m n
   tried-view window at {b} s (Way.inside i) =
       rw (same-reached s) (window-view at s (run-view program window (starting i (reached b .room)) labels m n r))
 
-  speculated-view : (window : ℕ) (at : Position) → SameSteps (speculated program window at labels m) (speculated program window at labels n)
+  pub speculated-view : (window : ℕ) (at : Position) → SameSteps (speculated program window at labels m) (speculated program window at labels n)
   unfolding speculated
   speculated-view window at = by (eqb (op .opcode) 5 && passed (stepped program at labels m)) refl
     where

@@ -1,6 +1,7 @@
 pub mod Window
 pub mod Speculation
 pub mod Noninterference
+pub mod Divisions
 pub mod Labelled
 pub mod Limits
 pub mod Resume

@@ -120,7 +120,7 @@ impl Division {
         Entry::new(self.opcode as u8, varnodes)
     }
 
-    /// Compares the division as run and as step, and in a window and behind an empty one.
+    /// Compares the division as run and as step, in a window, and left out with a window of 0.
     fn check(&self, tally: &mut Tally) {
         let alone = self.case(&[self.entry()]);
         let report = match (self.leaks, self.by_zero) {

@@ -1,0 +1,51 @@
+-- What a speculative run divides, in its windows too, does not depend on secret bytes.
+use Prim.Native.Nat.{ℕ, zero, suc}
+use mathlib.Core.Bool.{true, cond, _&&_}
+use mathlib.Core.List.{List, [], _∷_, _++_}
+use mathlib.Core.Path.{_≡_}
+use lib.Dec.{eqb}
+use Rattle.machine.specs.Program.{Program, programOf}
+use Rattle.machine.specs.Memory.{Memory, spaces, lengthsOf, valueAt}
+use Rattle.machine.specs.Effect.{Operation, operationAt}
+use Rattle.machine.specs.Run.{Position, Stepped, stepped}
+use Rattle.machine.specs.Calls.{starting, sameLengths, unlabelled}
+use Rattle.machine.specs.Noninterference.{LowEquivalent}
+use Rattle.machine.specs.Marked.{words, settings}
+use Rattle.machine.specs.Divisions.{operandsAt, dividedAfter, divided, twoDivisions}
+use Rattle.speculation.specs.Window.{Way, otherWay, reached, passed, speculated}
+
+-- What the window of a way divides; outside the list there is none.
+unfoldable pub dividedAhead : Program → (window room : ℕ) → (labels memory : Memory) → Way → List ℕ
+dividedAhead program window room labels m Way.outside = []
+dividedAhead program window room labels m (Way.inside i) = divided program window (starting i room) labels m
+
+-- What the window of an operation divides: a CBRANCH opens one after its checks and log word.
+unfoldable pub dividedInWindow : Program → (window : ℕ) → Position → (labels memory : Memory) → List ℕ
+dividedInWindow program window at labels m =
+    let op : Operation = operationAt (program .list) (at .index) in
+    let right : Stepped = stepped program at labels m in
+    cond (eqb (op .opcode) 5 && passed right)
+    (dividedAhead program window (reached right .room) labels m (otherWay op (at .index) (valueAt (program .settings) m (op .input1))))
+    []
+
+-- The operands of the divisions that a speculative run executes, in order: of each operation those of its window, also where that ends the
+-- run, and then its own.
+unfoldable pub speculativelyDivided : Program → (window budget : ℕ) → Position → (labels memory : Memory) → List ℕ
+speculativelyDivided program window zero at labels m = []
+speculativelyDivided program window (suc budget) at labels m =
+    dividedInWindow program window at labels m
+    ++ dividedAfter (operandsAt program (at .index) m) (speculativelyDivided program window budget) (speculated program window at labels m)
+
+-- A CBRANCH to index 2, taken, then the two divisions of `twoDivisions`: byte 2 of the register space = byte 0 by byte 1, byte 3 = byte 2 by byte 1.
+abbrev pub branchAndDivisions : Program
+branchAndDivisions = programOf (settings 0) (words 0x11110005 0 2 1 ++ twoDivisions .list)
+
+-- Both of these.
+pub record SpeculativeDivisions : Type 0 where
+  -- What a window divides comes first: f9 by 02, which is undone; then what the right way divides, aa by 02.
+  pub windowFirst : speculativelyDivided branchAndDivisions 1 2 (starting 0 1) unlabelled (spaces [] (0xf9 ∷ 0x02 ∷ 0xaa ∷ 0xaa ∷ []) [])
+      ≡ 0xf9 ∷ 0x02 ∷ 0xaa ∷ 0x02 ∷ []
+  -- Two memories that agree in each byte labelled public divide the same numbers.
+  pub same : (program : Program) (window budget : ℕ) (at : Position) (labels first second : Memory)
+      → sameLengths (lengthsOf labels) (lengthsOf first) ≡ true → LowEquivalent labels first second
+      → speculativelyDivided program window budget at labels first ≡ speculativelyDivided program window budget at labels second
