@@ -34,7 +34,7 @@ extern "C" {
 /* The version of this header and of the library that it is for: that of the file VERSION. The first number
  * grows where a call changes, in its parameters or in the words that it takes: a program must then be checked
  * and compiled again, since the linker does not notice. The second grows where a call is added or answers
- * otherwise than before, the third where none is and none does. */
+ * otherwise than before, the third where neither is so. */
 #define UNDRELVOA_VERSION "3.2.0"
 #define UNDRELVOA_VERSION_MAJOR 3
 #define UNDRELVOA_VERSION_MINOR 2

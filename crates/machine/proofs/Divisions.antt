@@ -5,13 +5,14 @@ use mathlib.Core.Bool.{Bool, true, false, cond, true≢false}
 use mathlib.Core.List.{List, [], _∷_, _++_}
 use borrow.Author.Tests.{lt-ltb}
 use lib.Dec.{ltb}
-use Rattle.integer.proofs.Booleans.{or-commutes, neither}
+use Rattle.integer.proofs.Booleans.{or-commutes}
 use Rattle.word.specs.Sum.{sum, tabulate, digit}
 use Rattle.word.specs.Word.{part, significance, valueOf, bytesOf}
 use Rattle.integer.specs.Operations.{intDiv}
 use Rattle.arithmetic.specs.Opcodes.{member}
 use Rattle.arithmetic.specs.Operands.{divides}
 use Rattle.arithmetic.specs.Result.{lookup, integerResults, result}
+use Rattle.operation.specs.declared.layout.Varnode.{Varnode}
 use Rattle.operation.specs.Layout.{operationCount, wordAt, headByte, opcodeAt, descriptorAt, offsetAt, describedBy, varnodeAt}
 use Rattle.operation.specs.Rules.{branches, jumps}
 use Rattle.machine.specs.Program.{Program, bigEndian}
@@ -21,10 +22,10 @@ use Rattle.machine.specs.Effect.{anySecret, secret, labelsWritten}
 use Rattle.machine.specs.Run.{Position, Ended, Stepped, endingOf, checked, decided, advanced, ended, resolvedValue, applyDecision, executeAs, execute, stepped, continued, run}
 use Rattle.machine.specs.Calls.{starting, unlabelled}
 use Rattle.machine.specs.Conditions.{hasSecret}
-use Rattle.machine.specs.Divisions.{operandsAt, dividedAfter, divided, twoDivisions, PublicDivisions}
+use Rattle.machine.specs.Divisions.{divisionAt, dividedAfter, divided, twoDivisions, PublicDivisions}
 use Rattle.machine.proofs.Cases.{either}
 use Rattle.machine.proofs.Pointwise.{Spaces}
-use Rattle.machine.proofs.Secrecy.{Public, public-value, stepped-view}
+use Rattle.machine.proofs.Secrecy.{Public, public-values, stepped-view}
 use Rattle.machine.proofs.Secrecy as secrecy
 use Rattle.machine.proofs.Plain.{stepped-same}
 use Rattle.machine.proofs.Plain as plain
@@ -39,80 +40,83 @@ division-kind n d =
     when n 35 (λ e. rw e refl) (λ n35. when n 36 (λ e. rw e refl) (λ n36. when n 37 (λ e. rw e refl) (λ n37. when n 38 (λ e. rw e refl) (λ n38.
     absurd (true≢false (sym d ∙ no-division n n35 n36 n37 n38))))))
 
--- what an operation must find public
-abbrev pub guarded : Operation → Memory → Bool
-guarded op labels = secret labels (sinks (kindOf (op .opcode)) op)
+-- a secret byte is in what an operation must find public
+abbrev pub finds-secret : Operation → Memory → Bool
+finds-secret op labels = secret labels (sinks (kindOf (op .opcode)) op)
 
-operands-guarded : (labels : Memory) (op : Operation) → divides (op .opcode) ≡ true → guarded op labels ≡ secret labels (op .input0 ∷ op .input1 ∷ [])
-operands-guarded labels op d =
+division-finds : (labels : Memory) (op : Operation) → divides (op .opcode) ≡ true → finds-secret op labels ≡ secret labels (op .input0 ∷ op .input1 ∷ [])
+division-finds labels op d =
     ap (λ (k : Kind). secret labels (sinks k op)) (division-kind (op .opcode) d)
     ∙ division-secret labels op ∙ or-commutes (hasSecret labels (op .input1)) (hasSecret labels (op .input0))
     ∙ sym (two-secret labels (op .input0) (op .input1))
 
-pub operands-same : {labels m n : Memory} → Spaces Public labels m n → (program : Program) (i : ℕ)
-    → guarded (operationAt (program .list) i) labels ≡ false → operandsAt program i m ≡ operandsAt program i n
-unfolding operandsAt secret
-operands-same {labels} {m} {n} r program i h = by (divides (op .opcode)) refl
+division-view : {labels m n : Memory} → Spaces Public labels m n → (program : Program) (i : ℕ)
+    → finds-secret (operationAt (program .list) i) labels ≡ false → divisionAt program i m ≡ divisionAt program i n
+unfolding divisionAt
+division-view {labels} {m} {n} r program i h = by (divides (op .opcode)) refl
   where
     op : Operation
     op = operationAt (program .list) i
 
+    operands : List Varnode
+    operands = op .input0 ∷ op .input1 ∷ []
+
     by : (t : Bool) → divides (op .opcode) ≡ t
-        → cond t (valueAt (program .settings) m (op .input0) ∷ valueAt (program .settings) m (op .input1) ∷ []) []
-        ≡ cond t (valueAt (program .settings) n (op .input0) ∷ valueAt (program .settings) n (op .input1) ∷ []) []
+        → cond t (i ∷ valuesOf (program .settings) m operands) [] ≡ cond t (i ∷ valuesOf (program .settings) n operands) []
     by false d = refl
-    by true d =
-        let p = neither (anySecret (bytesAt labels (op .input0))) _ (sym (operands-guarded labels op d) ∙ h) in
-        let q = neither (anySecret (bytesAt labels (op .input1))) false (p .1) in
-        rw (public-value r (program .settings) (op .input0) (p .0), public-value r (program .settings) (op .input1) (q .0)) refl
+    by true d = ap (λ (vs : List ℕ). i ∷ vs) (public-values r (program .settings) operands (sym (division-finds labels op d) ∙ h))
 
 -- LEAK is looked at first
-leak-halts : (program : Program) (at : Position) (labels m : Memory) → guarded (operationAt (program .list) (at .index)) labels ≡ true
+leak-halts : (program : Program) (at : Position) (labels m : Memory) → finds-secret (operationAt (program .list) (at .index)) labels ≡ true
     → execute program (operationAt (program .list) (at .index)) at labels m ≡ Stepped.halted (ended 31 0 at labels m)
 unfolding execute executeAs decided applyDecision endingOf
 leak-halts program at labels m h = rw h refl
 
 -- ---- two memories
 
-module _ (operands : List ℕ) (f : Position → Memory → Memory → List ℕ) where
-  pub after-leak : (program : Program) (at : Position) (labels m : Memory) → guarded (operationAt (program .list) (at .index)) labels ≡ true
-      → dividedAfter operands f (stepped program at labels m) ≡ []
-  unfolding dividedAfter stepped
-  after-leak program at labels m h =
-      either (λ (s : Stepped). dividedAfter operands f s ≡ []) (ltb (at .index) (operationCount (program .list))) _ _
-      (rw (leak-halts program at labels m h) refl) refl
+pub leak-divides-nothing : (division : List ℕ) (f : Position → Memory → Memory → List ℕ) (program : Program) (at : Position) (labels m : Memory)
+    → finds-secret (operationAt (program .list) (at .index)) labels ≡ true → dividedAfter division f (stepped program at labels m) ≡ []
+unfolding dividedAfter stepped
+leak-divides-nothing division f program at labels m h =
+    either (λ (s : Stepped). dividedAfter division f s ≡ []) (ltb (at .index) (operationCount (program .list))) _ _
+    (rw (leak-halts program at labels m h) refl) refl
 
-  pub after-view : ((at : Position) (labels m n : Memory) → Spaces Public labels m n → f at labels m ≡ f at labels n)
-      → {a b : Stepped} → secrecy.SameSteps a b → dividedAfter operands f a ≡ dividedAfter operands f b
-  unfolding dividedAfter
-  after-view h (secrecy.halts v) = refl
-  after-view h (secrecy.goes {at} {labels} {m} {n} r) = ap (λ (rest : List ℕ). operands ++ rest) (h at labels m n r)
-
-step-view : (program : Program) {labels m n : Memory} → Spaces Public labels m n → (at : Position) (f : Position → Memory → Memory → List ℕ)
+after-view : (division : List ℕ) (f : Position → Memory → Memory → List ℕ)
     → ((at : Position) (labels m n : Memory) → Spaces Public labels m n → f at labels m ≡ f at labels n)
-    → dividedAfter (operandsAt program (at .index) m) f (stepped program at labels m) ≡ dividedAfter (operandsAt program (at .index) n) f (stepped program at labels n)
-step-view program {labels} {m} {n} r at f h = by (guarded (operationAt (program .list) (at .index)) labels) refl
+    → {a b : Stepped} → secrecy.SameSteps a b → dividedAfter division f a ≡ dividedAfter division f b
+unfolding dividedAfter
+after-view division f h (secrecy.halts v) = refl
+after-view division f h (secrecy.goes {at} {labels} {m} {n} r) = ap (λ (rest : List ℕ). division ++ rest) (h at labels m n r)
+
+-- an operation that leaks divides nothing, any other divides the same; `a` and `b` are what it does in the two memories
+pub step-view : (program : Program) {labels m n : Memory} → Spaces Public labels m n → (i : ℕ) (f : Position → Memory → Memory → List ℕ)
+    → ((at : Position) (labels m n : Memory) → Spaces Public labels m n → f at labels m ≡ f at labels n)
+    → {a b : Stepped} → secrecy.SameSteps a b
+    → ((division : List ℕ) → finds-secret (operationAt (program .list) i) labels ≡ true → (dividedAfter division f a ≡ []) × (dividedAfter division f b ≡ []))
+    → dividedAfter (divisionAt program i m) f a ≡ dividedAfter (divisionAt program i n) f b
+step-view program {labels} {m} {n} r i f h {a} {b} s none = by (finds-secret (operationAt (program .list) i) labels) refl
   where
-    by : (t : Bool) → guarded (operationAt (program .list) (at .index)) labels ≡ t
-        → dividedAfter (operandsAt program (at .index) m) f (stepped program at labels m) ≡ dividedAfter (operandsAt program (at .index) n) f (stepped program at labels n)
-    by true g = after-leak _ f program at labels m g ∙ sym (after-leak _ f program at labels n g)
-    by false g = rw (operands-same r program (at .index) g) (after-view _ f h (stepped-view program r at))
+    by : (t : Bool) → finds-secret (operationAt (program .list) i) labels ≡ t → dividedAfter (divisionAt program i m) f a ≡ dividedAfter (divisionAt program i n) f b
+    by true g = none (divisionAt program i m) g .0 ∙ sym (none (divisionAt program i n) g .1)
+    by false g = rw (division-view r program i g) (after-view _ f h s)
 
 pub divided-view : (program : Program) (budget : ℕ) (at : Position) (labels m n : Memory) → Spaces Public labels m n
     → divided program budget at labels m ≡ divided program budget at labels n
 unfolding divided
 divided-view program zero at labels m n r = refl
-divided-view program (suc budget) at labels m n r = step-view program r at (divided program budget) (λ at′ l m′ n′ r′. divided-view program budget at′ l m′ n′ r′)
+divided-view program (suc budget) at labels m n r =
+    step-view program r (at .index) (divided program budget) (λ at′ l m′ n′ r′. divided-view program budget at′ l m′ n′ r′) (stepped-view program r at)
+    (λ division g. (leak-divides-nothing division (divided program budget) program at labels m g, leak-divides-nothing division (divided program budget) program at labels n g))
 
 -- ---- the plain run
 
-after-same : (operands : List ℕ) (f : Position → Memory → Memory → List ℕ) (g : Position → Memory → Memory → Ended)
+after-same : (division : List ℕ) (f : Position → Memory → Memory → List ℕ) (g : Position → Memory → Memory → Ended)
     → ((at : Position) (labels m : Memory) → (g at labels m .ending ≡ 31 → ⊥) → f at unlabelled m ≡ f at labels m)
-    → {a b : Stepped} → plain.SameSteps a b → (continued g b .ending ≡ 31 → ⊥) → dividedAfter operands f a ≡ dividedAfter operands f b
+    → {a b : Stepped} → plain.SameSteps a b → (continued g b .ending ≡ 31 → ⊥) → dividedAfter division f a ≡ dividedAfter division f b
 unfolding dividedAfter continued
-after-same operands f g h (plain.leaks e) ne = absurd (ne e)
-after-same operands f g h (plain.halts v) ne = refl
-after-same operands f g h (plain.goes {at} {labels} {m}) ne = ap (λ (rest : List ℕ). operands ++ rest) (h at labels m ne)
+after-same division f g h (plain.leaks e) ne = absurd (ne e)
+after-same division f g h (plain.halts v) ne = refl
+after-same division f g h (plain.goes {at} {labels} {m}) ne = ap (λ (rest : List ℕ). division ++ rest) (h at labels m ne)
 
 divided-same : (program : Program) (budget : ℕ) (at : Position) (labels m : Memory) → (run program budget at labels m .ending ≡ 31 → ⊥)
     → divided program budget at unlabelled m ≡ divided program budget at labels m
@@ -123,26 +127,27 @@ divided-same program (suc budget) at labels m ne =
 
 -- ---- what is told is what is read, in order
 
-operands-read : (program : Program) (i x : ℕ) (m : Memory)
+division-reads : (program : Program) (i offset : ℕ) (m : Memory)
     → (let op = operationAt (program .list) i in
-    divides (op .opcode) ≡ true → operandsAt program i m ≡ valuesOf (program .settings) m (sources (kindOf (op .opcode)) op x))
-unfolding operandsAt sources valuesOf
-operands-read program i x m d = rw (d, division-kind (operationAt (program .list) i .opcode) d) refl
+    divides (op .opcode) ≡ true → divisionAt program i m ≡ i ∷ valuesOf (program .settings) m (sources (kindOf (op .opcode)) op offset))
+unfolding divisionAt sources
+division-reads program i offset m d = rw (d, division-kind (operationAt (program .list) i .opcode) d) refl
 
-in-order : divided twoDivisions 2 (starting 0 0) unlabelled (spaces [] (0xf9 ∷ 0x02 ∷ 0xaa ∷ 0xaa ∷ []) []) ≡ 0xf9 ∷ 0x02 ∷ 0x7c ∷ 0x02 ∷ []
+in-order : divided twoDivisions 2 (starting 0 0) unlabelled (spaces [] (0xf9 ∷ 0x02 ∷ 0xaa ∷ 0xaa ∷ []) [])
+    ≡ 0 ∷ 0xf9 ∷ 0x02 ∷ 1 ∷ 0x7c ∷ 0x02 ∷ []
 unfolding sum tabulate digit part significance valueOf bytesOf intDiv member divides lookup integerResults result operationCount wordAt headByte
     opcodeAt descriptorAt offsetAt describedBy varnodeAt branches jumps spaceOf withSpace bytesAt written valueAt operationAt kindOf sinks tested
     resolved sources target moves valuesOf computed bytesWritten anySecret secret labelsWritten checked decided advanced resolvedValue bigEndian
-    applyDecision executeAs execute stepped starting unlabelled operandsAt dividedAfter divided
+    applyDecision executeAs execute stepped starting unlabelled divisionAt dividedAfter divided
 in-order = refl
 
 pub public-divisions : PublicDivisions
 unfolding run stepped continued
 public-divisions = record {
-  reads = operands-read;
+  reads = division-reads;
   inOrder = in-order;
   stops = λ program budget at labels m l d s.
-      rw (lt-ltb (at .index) (operationCount (program .list)) l, leak-halts program at labels m (operands-guarded labels (operationAt (program .list) (at .index)) d ∙ s)) refl;
+      rw (lt-ltb (at .index) (operationCount (program .list)) l, leak-halts program at labels m (division-finds labels (operationAt (program .list) (at .index)) d ∙ s)) refl;
   labelled = λ program budget at labels first second t l. divided-view program budget at labels first second (spaces-from t l);
   plain = divided-same;
 }

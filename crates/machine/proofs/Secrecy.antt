@@ -99,11 +99,11 @@ module _ {labels m n : Memory} (r : Spaces Public labels m n) where
       let e = neither (anySecret (bytesAt labels v)) (secret labels vs) h in
       rw (public-bytes v (e .0), public-digits settings vs (e .1))
 
-  pub public-value : (settings : Settings) (v : Varnode) → anySecret (bytesAt labels v) ≡ false → valueAt settings m v ≡ valueAt settings n v
+  public-value : (settings : Settings) (v : Varnode) → anySecret (bytesAt labels v) ≡ false → valueAt settings m v ≡ valueAt settings n v
   unfolding valueAt
   public-value settings v h = rw (public-bytes v h)
 
-  public-values : (settings : Settings) (vs : List Varnode) → secret labels vs ≡ false → valuesOf settings m vs ≡ valuesOf settings n vs
+  pub public-values : (settings : Settings) (vs : List Varnode) → secret labels vs ≡ false → valuesOf settings m vs ≡ valuesOf settings n vs
   unfolding valuesOf secret
   public-values settings [] h = refl
   public-values settings (v ∷ vs) h =

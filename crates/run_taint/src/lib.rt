@@ -34,9 +34,9 @@ pub fn leaks_at<'a>(
     ensures { λ r. ⌜ r ≡ leaks (spaces (now (unique .entry)) (now (register .entry)) (now (ram .entry))) (operationAt (now (list .entry)) i) ⌝ }
 {
     if is_division(opcode_at(list, i)) {
-        let dividend = has_secret(unique, register, ram, varnode_at(list, i, 1));
-        let divisor = has_secret(unique, register, ram, varnode_at(list, i, 2));
-        return either(dividend, divisor);
+        let secret_dividend = has_secret(unique, register, ram, varnode_at(list, i, 1));
+        let secret_divisor = has_secret(unique, register, ram, varnode_at(list, i, 2));
+        return either(secret_dividend, secret_divisor);
     }
     has_secret(unique, register, ram, sink_at(list, i))
 }

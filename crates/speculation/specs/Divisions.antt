@@ -11,7 +11,7 @@ use Rattle.machine.specs.Run.{Position, Stepped, stepped}
 use Rattle.machine.specs.Calls.{starting, sameLengths, unlabelled}
 use Rattle.machine.specs.Noninterference.{LowEquivalent}
 use Rattle.machine.specs.Marked.{words, settings}
-use Rattle.machine.specs.Divisions.{operandsAt, dividedAfter, divided, twoDivisions}
+use Rattle.machine.specs.Divisions.{divisionAt, dividedAfter, divided, twoDivisions}
 use Rattle.speculation.specs.Window.{Way, otherWay, reached, passed, speculated}
 
 -- What the window of a way divides; outside the list there is none.
@@ -28,24 +28,31 @@ dividedInWindow program window at labels m =
     (dividedAhead program window (reached right .room) labels m (otherWay op (at .index) (valueAt (program .settings) m (op .input1))))
     []
 
--- The operands of the divisions that a speculative run executes, in order: of each operation those of its window, also where that ends the
--- run, and then its own.
+-- The divisions that a speculative run executes, in order: of each operation those of its window, also where that ends the run, and then
+-- its own.
 unfoldable pub speculativelyDivided : Program → (window budget : ℕ) → Position → (labels memory : Memory) → List ℕ
 speculativelyDivided program window zero at labels m = []
 speculativelyDivided program window (suc budget) at labels m =
     dividedInWindow program window at labels m
-    ++ dividedAfter (operandsAt program (at .index) m) (speculativelyDivided program window budget) (speculated program window at labels m)
+    ++ dividedAfter (divisionAt program (at .index) m) (speculativelyDivided program window budget) (speculated program window at labels m)
 
--- A CBRANCH to index 2, taken, then the two divisions of `twoDivisions`: byte 2 of the register space = byte 0 by byte 1, byte 3 = byte 2 by byte 1.
+-- A CBRANCH to index 2, taken, then the operations of `twoDivisions`.
 abbrev pub branchAndDivisions : Program
 branchAndDivisions = programOf (settings 0) (words 0x11110005 0 2 1 ++ twoDivisions .list)
 
--- Both of these.
+-- A CBRANCH to the end, taken, then two divisions of 1 byte in the register space: byte 2 = byte 0 by byte 1, byte 2 = byte 3 by byte 1.
+abbrev pub branchToTheEnd : Program
+branchToTheEnd = programOf (settings 0) (words 0x11110005 0 3 1 ++ words 0x31313123 2 0 1 ++ words 0x31313123 2 3 1)
+
+-- All of these.
 pub record SpeculativeDivisions : Type 0 where
-  -- What a window divides comes first: f9 by 02, which is undone; then what the right way divides, aa by 02.
+  -- What a window divides comes first: at 1 f9 by 02, whose byte is undone; then what the right way divides, at 2 aa by 02.
   pub windowFirst : speculativelyDivided branchAndDivisions 1 2 (starting 0 1) unlabelled (spaces [] (0xf9 ∷ 0x02 ∷ 0xaa ∷ 0xaa ∷ []) [])
-      ≡ 0xf9 ∷ 0x02 ∷ 0xaa ∷ 0x02 ∷ []
-  -- Two memories that agree in each byte labelled public divide the same numbers.
+      ≡ 1 ∷ 0xf9 ∷ 0x02 ∷ 2 ∷ 0xaa ∷ 0x02 ∷ []
+  -- So does what a window divides that ends the run: at 1 f9 by 02; at 2 the dividend is secret.
+  pub endingWindow : speculativelyDivided branchToTheEnd 2 1 (starting 0 1) (spaces [] (0 ∷ 0 ∷ 0 ∷ 1 ∷ []) []) (spaces [] (0xf9 ∷ 0x02 ∷ 0xaa ∷ 0xbb ∷ []) [])
+      ≡ 1 ∷ 0xf9 ∷ 0x02 ∷ []
+  -- Two memories that agree in each byte labelled public divide the same numbers, by the same operations.
   pub same : (program : Program) (window budget : ℕ) (at : Position) (labels first second : Memory)
       → sameLengths (lengthsOf labels) (lengthsOf first) ≡ true → LowEquivalent labels first second
       → speculativelyDivided program window budget at labels first ≡ speculativelyDivided program window budget at labels second

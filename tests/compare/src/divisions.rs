@@ -1,4 +1,4 @@
-//! What runs did with divisions, counted, so that a test can ask for enough of each.
+//! What runs divide, and what they did with divisions, counted, so that a test can ask for enough of each.
 
 use reference::answers::RunCall;
 use reference::bytes::ByteOrder;

@@ -23,8 +23,9 @@ use reference::verdict::{Settings, END};
 const RANDOM_PROGRAMS: u64 = 270_000;
 /// How many of them should come to a division.
 const RUN_QUOTA: u64 = 200_000;
-/// How often each way to leak, each place of a secret byte and each other event should come.
-const LEAK_QUOTA: u64 = 500;
+/// How often a division should be executed, and be stopped in each way.
+const ENDING_QUOTA: u64 = 500;
+/// How often LEAK over a divisor of 0 should come, and each place of a secret byte.
 const QUOTA: u64 = 200;
 /// How many operations with secret operands are tried, and how many of each opcode at least.
 const SECRET_OPERATIONS: u64 = 60_000;
@@ -34,10 +35,10 @@ const OPCODE_QUOTA: u64 = 500;
 fn assert_quotas(divisions: &Divisions, times: u64) {
     divisions.assert_quota(Event::Run, RUN_QUOTA * times);
     for opcode in DIVISIONS.map(|opcode| opcode as u8) {
-        divisions.assert_quota(Event::Executed { opcode }, LEAK_QUOTA);
-        divisions.assert_quota(Event::Zero { opcode }, LEAK_QUOTA);
+        divisions.assert_quota(Event::Executed { opcode }, ENDING_QUOTA);
+        divisions.assert_quota(Event::Zero { opcode }, ENDING_QUOTA);
         for secret in [Secret::Dividend, Secret::Divisor, Secret::Both] {
-            divisions.assert_quota(Event::Leak { opcode, secret }, LEAK_QUOTA);
+            divisions.assert_quota(Event::Leak { opcode, secret }, ENDING_QUOTA);
             divisions.assert_quota(Event::LeakAtZero { opcode, secret }, QUOTA);
         }
     }
@@ -73,7 +74,7 @@ fn random_programs() {
     }
 }
 
-/// A division of two operands, each with its value and the place of its secret byte, if it has one.
+/// A division of two operands, with their values and secret bytes.
 #[derive(Clone, Copy, Debug)]
 struct Division {
     opcode: Opcode,
@@ -82,7 +83,7 @@ struct Division {
     divisor: Varnode,
     /// What the operands in memory hold: the divisor is written last, where they overlap.
     values: [u64; 2],
-    /// A secret byte of memory for each operand; all other bytes of the operands are public.
+    /// Bytes of the operands that are secret; all others of them are public.
     secret: [Option<Varnode>; 2],
     leaks: bool,
     by_zero: bool,
@@ -209,7 +210,7 @@ fn a_secret_byte_at_each_place_of_dividend_and_divisor() {
 }
 
 #[test]
-fn operands_that_overlap() {
+fn operands_that_overlap_or_touch() {
     let mut tally = Tally::default();
     for division in all_divisions() {
         let dividend = division.dividend;
@@ -235,7 +236,7 @@ fn operands_that_overlap() {
         }
     }
     tally.assert_numbers(&[END, LEAK, ZERO, LEAK_AHEAD]);
-    println!("division, operands that overlap: {tally}");
+    println!("division, operands that overlap or touch: {tally}");
 }
 
 #[test]
@@ -275,7 +276,7 @@ fn no_other_integer_operation_leaks() {
     let mut campaign = Campaign::new(SEED, SECRET_OPERATIONS);
     let mut executed = Tally::default();
     for (_, random) in campaign.by_ref() {
-        let Case { call, mut state } = Programs::new(random).secret_case();
+        let Case { call, mut state } = Programs::new(random).secret_operands_case();
         let count = |opcode| executed.count(opcode as u64);
         let report = check_run(Job::Run, &call, &mut state, LentWords::EXACT, count);
         assert_eq!(report, Some([END, 1, 1, 0, 0]), "{}", Case { call, state });

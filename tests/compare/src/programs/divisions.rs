@@ -1,5 +1,7 @@
 //! Lists with many divisions, whose operands are public or have a secret byte.
 
+use reference::opcodes::INTEGER_OPERATIONS;
+
 use super::*;
 use crate::divisions::DIVISIONS;
 use crate::wordsizes::varnodes;
@@ -23,15 +25,15 @@ impl Programs {
     }
 
     /// A case of one integer operation that is no division, with every byte secret.
-    pub fn secret_case(&mut self) -> Case {
+    pub fn secret_operands_case(&mut self) -> Case {
+        let others: Vec<Operation> =
+            INTEGER_OPERATIONS.iter().copied().filter(|operation| !operation.divides()).collect();
         let draft = loop {
             let settings = self.lists.settings();
             let lengths = self.lengths();
             let mut draft = Draft::new(settings, lengths, 1);
-            let operation = self.pick(&OPERATIONS);
-            let may_be_secret = operation.is_integer() && !operation.divides();
-            let entry = self.lists.entry_with_room(&operation, &draft.frame, 0);
-            draft.entries.extend(entry.filter(|_| may_be_secret));
+            let operation = self.pick(&others);
+            draft.entries.extend(self.lists.entry_with_room(&operation, &draft.frame, 0));
             if draft.is_full() {
                 break draft;
             }
