@@ -1,32 +1,27 @@
 -- What a speculative run divides, in its windows too, does not depend on secret bytes.
 use Prim.Native.Nat.{ℕ, zero, suc}
-use mathlib.Core.Bool.{true, cond, _&&_}
+use mathlib.Core.Bool.{true, cond}
 use mathlib.Core.List.{List, [], _∷_, _++_}
 use mathlib.Core.Path.{_≡_}
-use lib.Dec.{eqb}
 use Rattle.machine.specs.Program.{Program, programOf}
-use Rattle.machine.specs.Memory.{Memory, spaces, lengthsOf, valueAt}
-use Rattle.machine.specs.Effect.{Operation, operationAt}
+use Rattle.machine.specs.Memory.{Memory, spaces, lengthsOf}
 use Rattle.machine.specs.Run.{Position, Stepped, stepped}
 use Rattle.machine.specs.Calls.{starting, sameLengths, unlabelled}
 use Rattle.machine.specs.Noninterference.{LowEquivalent}
 use Rattle.machine.specs.Marked.{words, settings}
 use Rattle.machine.specs.Divisions.{divisionAt, dividedAfter, divided, twoDivisions}
-use Rattle.speculation.specs.Window.{Way, otherWay, reached, passed, speculated}
+use Rattle.speculation.specs.Window.{Way, reached, opensWindow, otherWayAt, speculated}
 
 -- What the window of a way divides; outside the list there is none.
 unfoldable pub dividedAhead : Program → (window room : ℕ) → (labels memory : Memory) → Way → List ℕ
 dividedAhead program window room labels m Way.outside = []
 dividedAhead program window room labels m (Way.inside i) = divided program window (starting i room) labels m
 
--- What the window of an operation divides: a CBRANCH opens one after its checks and log word.
+-- What the window of an operation divides, if it opens one.
 unfoldable pub dividedInWindow : Program → (window : ℕ) → Position → (labels memory : Memory) → List ℕ
 dividedInWindow program window at labels m =
-    let op : Operation = operationAt (program .list) (at .index) in
     let right : Stepped = stepped program at labels m in
-    cond (eqb (op .opcode) 5 && passed right)
-    (dividedAhead program window (reached right .room) labels m (otherWay op (at .index) (valueAt (program .settings) m (op .input1))))
-    []
+    cond (opensWindow program at right) (dividedAhead program window (reached right .room) labels m (otherWayAt program at m)) []
 
 -- The divisions that a speculative run executes, in order: of each operation those of its window, also where that ends the run, and then
 -- its own.
@@ -49,7 +44,7 @@ pub record SpeculativeDivisions : Type 0 where
   -- What a window divides comes first: at 1 f9 by 02, whose byte is undone; then what the right way divides, at 2 aa by 02.
   pub windowFirst : speculativelyDivided branchAndDivisions 1 2 (starting 0 1) unlabelled (spaces [] (0xf9 ∷ 0x02 ∷ 0xaa ∷ 0xaa ∷ []) [])
       ≡ 1 ∷ 0xf9 ∷ 0x02 ∷ 2 ∷ 0xaa ∷ 0x02 ∷ []
-  -- So does what a window divides that ends the run: at 1 f9 by 02; at 2 the dividend is secret.
+  -- A window that ends the run is told too: at 1 f9 by 02; at 2 the dividend is secret.
   pub endingWindow : speculativelyDivided branchToTheEnd 2 1 (starting 0 1) (spaces [] (0 ∷ 0 ∷ 0 ∷ 1 ∷ []) []) (spaces [] (0xf9 ∷ 0x02 ∷ 0xaa ∷ 0xbb ∷ []) [])
       ≡ 1 ∷ 0xf9 ∷ 0x02 ∷ []
   -- Two memories that agree in each byte labelled public divide the same numbers, by the same operations.

@@ -89,11 +89,18 @@ unfoldable pub passed : Stepped → Bool
 passed (Stepped.halted r) = eqb (r .ending) 1
 passed (Stepped.going at labels m) = true
 
--- One operation; `right` is what it does by itself. A CBRANCH, after its checks and log word, tries the other way.
+-- A CBRANCH opens a window, after its checks and log word; `right` is what the operation does by itself.
+abbrev pub opensWindow : Program → Position → (right : Stepped) → Bool
+opensWindow program at right = eqb (operationAt (program .list) (at .index) .opcode) 5 && passed right
+
+-- The other way of the CBRANCH at a position.
+abbrev pub otherWayAt : Program → Position → (memory : Memory) → Way
+otherWayAt program at m =
+    let op : Operation = operationAt (program .list) (at .index) in
+    otherWay op (at .index) (valueAt (program .settings) m (op .input1))
+
+-- One operation: a CBRANCH tries the other way.
 unfoldable pub speculated : Program → (window : ℕ) → Position → (labels memory : Memory) → Stepped
 speculated program window at labels m =
-    let op : Operation = operationAt (program .list) (at .index) in
     let right : Stepped = stepped program at labels m in
-    cond (eqb (op .opcode) 5 && passed right)
-    (tried program window at labels m right (otherWay op (at .index) (valueAt (program .settings) m (op .input1))))
-    right
+    cond (opensWindow program at right) (tried program window at labels m right (otherWayAt program at m)) right
