@@ -155,7 +155,7 @@ record Class : Type 0 where
   pointer : Bool
   condition : Bool
   indirect : Bool
-  divisor : Bool
+  division : Bool
   loads : Bool
   stores : Bool
   logs : Bool
@@ -167,7 +167,7 @@ classOf n = record {
   pointer = member n (2 ∷ 3 ∷ []);
   condition = eqb n 5;
   indirect = member n (6 ∷ 8 ∷ 9 ∷ []);
-  divisor = member n (35 ∷ 36 ∷ 37 ∷ 38 ∷ []);
+  division = member n (35 ∷ 36 ∷ 37 ∷ 38 ∷ []);
   loads = eqb n 2;
   stores = eqb n 3;
   logs = member n (2 ∷ 3 ∷ 5 ∷ []);
@@ -181,7 +181,7 @@ free k = record {
   pointer = false;
   condition = false;
   indirect = false;
-  divisor = false;
+  division = false;
   loads = false;
   stores = false;
   logs = false;
@@ -194,7 +194,7 @@ divisions = record {
   pointer = false;
   condition = false;
   indirect = false;
-  divisor = true;
+  division = true;
   loads = false;
   stores = false;
   logs = false;
@@ -207,7 +207,7 @@ indirectBranches = record {
   pointer = false;
   condition = false;
   indirect = true;
-  divisor = false;
+  division = false;
   loads = false;
   stores = false;
   logs = false;
@@ -220,7 +220,7 @@ directBranches = record {
   pointer = false;
   condition = false;
   indirect = false;
-  divisor = false;
+  division = false;
   loads = false;
   stores = false;
   logs = false;
@@ -233,7 +233,7 @@ conditionalBranch = record {
   pointer = false;
   condition = true;
   indirect = false;
-  divisor = false;
+  division = false;
   loads = false;
   stores = false;
   logs = true;
@@ -246,7 +246,7 @@ load = record {
   pointer = true;
   condition = false;
   indirect = false;
-  divisor = false;
+  division = false;
   loads = true;
   stores = false;
   logs = true;
@@ -259,7 +259,7 @@ store = record {
   pointer = true;
   condition = false;
   indirect = false;
-  divisor = false;
+  division = false;
   loads = false;
   stores = true;
   logs = true;
@@ -455,9 +455,9 @@ module _ (program : Program) (op : Operation) (at : Position) (labels m : Memory
       let s1 : Bool = hasSecret labels (op .input1) in
       let x : ℕ = cond (c .pointer) offset1 value1 in
       exactStepBy
-      ((c .pointer && s1) || (c .condition && s1) || (c .indirect && s0) || (c .divisor && s1) || (c .divisor && s0))
+      ((c .pointer && s1) || (c .condition && s1) || (c .indirect && s0) || (c .division && s1) || (c .division && s0))
       ((c .loads && exceedsSpace m (pointee op x (op .output .size))) || (c .stores && exceedsSpace m (pointee op x (op .input2 .size))))
-      (c .divisor && eqb x 0)
+      (c .division && eqb x 0)
       (c .logs)
       (((c .direct || (c .condition && not (eqb x 0))) && eqb (op .input0 .space) 4) || c .indirect)
       (at .index * 2 ^ 32 + cond (c .condition) (flag (c .condition && not (eqb x 0))) x)

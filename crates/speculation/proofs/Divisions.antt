@@ -23,7 +23,7 @@ use Rattle.machine.proofs.Secrecy.{Public, stepped-view}
 use Rattle.machine.proofs.Noninterference.{spaces-from}
 use Rattle.machine.proofs.Divisions.{finds-secret, leak-divides-nothing, step-view, divided-view}
 use Rattle.speculation.specs.Window.{Way, wayOf, otherWay, ahead, windowOf, withWords, rightWay, reached, afterWindow, tried, passed, speculated}
-use Rattle.speculation.specs.Divisions.{dividedAhead, dividedInWindow, speculativelyDivided, branchAndDivisions, branchToTheEnd, SpeculativeDivisions}
+use Rattle.speculation.specs.Divisions.{dividedAhead, dividedInWindow, speculativelyDivided, branchAndDivisions, branchToTheEnd, branchesAndDivision, SpeculativeDivisions}
 use Rattle.speculation.proofs.Noninterference.{same-passed, same-reached, stepped-public, same-way, speculated-view}
 
 -- ---- windows
@@ -78,16 +78,18 @@ known-answers : (speculativelyDivided branchAndDivisions 1 2 (starting 0 1) unla
     ≡ 1 ∷ 0xf9 ∷ 0x02 ∷ 2 ∷ 0xaa ∷ 0x02 ∷ [])
     × (speculativelyDivided branchToTheEnd 2 1 (starting 0 1) (spaces [] (0 ∷ 0 ∷ 0 ∷ 1 ∷ []) []) (spaces [] (0xf9 ∷ 0x02 ∷ 0xaa ∷ 0xbb ∷ []) [])
     ≡ 1 ∷ 0xf9 ∷ 0x02 ∷ [])
+    × (speculativelyDivided branchesAndDivision 2 1 (starting 0 1) unlabelled (spaces [] (0xf9 ∷ 0x02 ∷ 0xaa ∷ []) []) ≡ [])
 unfolding sum tabulate digit part significance valueOf signed member divides operationCount wordAt headByte opcodeAt descriptorAt offsetAt describedBy
     varnodeAt absent branches jumps relativeTarget spaceOf withSpace bytesAt written valueAt operationAt kindOf sinks tested resolved sources target
     valuesOf anySecret secret logging indexOf goTo checked decided advanced ended resolvedValue bigEndian applyDecision executeAs execute stepped
     continued run starting unlabelled divisionAt dividedAfter divided wayOf otherWay ahead windowOf withWords rightWay reached afterWindow tried
     passed speculated dividedAhead dividedInWindow speculativelyDivided endingOf labelsWritten bytesWritten
-known-answers = (refl, refl)
+known-answers = (refl, refl, refl)
 
 pub speculative-divisions : SpeculativeDivisions
 speculative-divisions = record {
   windowFirst = known-answers .0;
   endingWindow = known-answers .1;
+  fullLog = known-answers .2;
   same = λ program window budget at labels first second t l. speculatively-view program window budget at labels first second (spaces-from t l);
 }

@@ -39,6 +39,10 @@ branchAndDivisions = programOf (settings 0) (words 0x11110005 0 2 1 ++ twoDivisi
 abbrev pub branchToTheEnd : Program
 branchToTheEnd = programOf (settings 0) (words 0x11110005 0 3 1 ++ words 0x31313123 2 0 1 ++ words 0x31313123 2 3 1)
 
+-- A CBRANCH to the end, taken, then one to the next operation, and a division.
+abbrev pub branchesAndDivision : Program
+branchesAndDivision = programOf (settings 0) (words 0x11110005 0 3 1 ++ words 0x11110005 0 1 1 ++ words 0x31313123 2 0 1)
+
 -- All of these.
 pub record SpeculativeDivisions : Type 0 where
   -- What a window divides comes first: at 1 f9 by 02, whose byte is undone; then what the right way divides, at 2 aa by 02.
@@ -47,6 +51,8 @@ pub record SpeculativeDivisions : Type 0 where
   -- A window that ends the run is told too: at 1 f9 by 02; at 2 the dividend is secret.
   pub endingWindow : speculativelyDivided branchToTheEnd 2 1 (starting 0 1) (spaces [] (0 ∷ 0 ∷ 0 ∷ 1 ∷ []) []) (spaces [] (0xf9 ∷ 0x02 ∷ 0xaa ∷ 0xbb ∷ []) [])
       ≡ 1 ∷ 0xf9 ∷ 0x02 ∷ []
+  -- A window has the log words that its CBRANCH left: with one in all, the CBRANCH inside finds no room, and nothing is divided.
+  pub fullLog : speculativelyDivided branchesAndDivision 2 1 (starting 0 1) unlabelled (spaces [] (0xf9 ∷ 0x02 ∷ 0xaa ∷ []) []) ≡ []
   -- Two memories that agree in each byte labelled public divide the same numbers, by the same operations.
   pub same : (program : Program) (window budget : ℕ) (at : Position) (labels first second : Memory)
       → sameLengths (lengthsOf labels) (lengthsOf first) ≡ true → LowEquivalent labels first second

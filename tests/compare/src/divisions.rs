@@ -18,13 +18,6 @@ use crate::wordsizes::varnodes;
 pub const DIVISIONS: [Opcode; 4] =
     [Opcode::IntDiv, Opcode::IntRem, Opcode::IntSdiv, Opcode::IntSrem];
 
-/// An operand of a division.
-#[derive(Clone, Copy, Debug, PartialEq, Eq, PartialOrd, Ord)]
-pub enum Operand {
-    Dividend,
-    Divisor,
-}
-
 /// Which operands have a secret byte, of a division that leaks.
 #[derive(Clone, Copy, Debug, PartialEq, Eq, PartialOrd, Ord)]
 pub enum Secret {
@@ -57,7 +50,7 @@ pub enum Event {
     },
     /// Stopped by LEAK at a single secret byte of one operand, by its place among 8.
     OneByte {
-        operand: Operand,
+        secret: Secret,
         place: usize,
     },
 }
@@ -96,13 +89,13 @@ impl Divisions {
         let is_zero = divisor == 0;
         self.add(Event::Leak { opcode, secret });
         self.add_those_that_came([(is_zero, Event::LeakAtZero { opcode, secret })]);
-        let (operand, varnode) = match secret {
-            Secret::Dividend => (Operand::Dividend, division.dividend),
-            Secret::Divisor => (Operand::Divisor, division.divisor),
+        let operand = match secret {
+            Secret::Dividend => division.dividend,
+            Secret::Divisor => division.divisor,
             Secret::Both => return,
         };
-        if let ([place], 8) = (&secret_places(labels, &varnode)[..], varnode.size) {
-            self.add(Event::OneByte { operand, place: *place });
+        if let ([place], 8) = (&secret_places(labels, &operand)[..], operand.size) {
+            self.add(Event::OneByte { secret, place: *place });
         }
     }
 }

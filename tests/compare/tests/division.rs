@@ -3,7 +3,7 @@
 
 use compare::agreement::Tally;
 use compare::campaign::Campaign;
-use compare::divisions::{Divisions, Event, Operand, Secret, DIVISIONS};
+use compare::divisions::{Divisions, Event, Secret, DIVISIONS};
 use compare::inputs::{largest_value, GOOD_ORDERS, SIZES};
 use compare::programs::Programs;
 use compare::runs::{check_run, Case, Job};
@@ -42,9 +42,9 @@ fn assert_quotas(divisions: &Divisions, times: u64) {
             divisions.assert_quota(Event::LeakAtZero { opcode, secret }, QUOTA);
         }
     }
-    for operand in [Operand::Dividend, Operand::Divisor] {
+    for secret in [Secret::Dividend, Secret::Divisor] {
         for place in 0..8 {
-            divisions.assert_quota(Event::OneByte { operand, place }, QUOTA);
+            divisions.assert_quota(Event::OneByte { secret, place }, QUOTA);
         }
     }
 }
@@ -85,14 +85,25 @@ struct Division {
     values: [u64; 2],
     /// Bytes of the operands that are secret; all others of them are public.
     secret: [Option<Varnode>; 2],
-    leaks: bool,
-    by_zero: bool,
 }
 
 /// A word of log and journal as it is lent.
 const LENT_WORD: u64 = 7;
 
 impl Division {
+    /// The same with these secret bytes and another divisor.
+    fn with(self, secret: [Option<Varnode>; 2], divisor: u64) -> Division {
+        Division { secret, values: [self.values[0], divisor], ..self }
+    }
+
+    fn leaks(&self) -> bool {
+        self.secret.iter().any(Option::is_some)
+    }
+
+    fn by_zero(&self) -> bool {
+        self.values[1] == 0
+    }
+
     /// The labelled case of a list. Bytes that are of no operand are secret.
     fn case(&self, entries: &[Entry]) -> Case {
         let settings = Settings { order: self.order, address_size: 8, wordsizes: Wordsizes::ONE };
@@ -124,7 +135,7 @@ impl Division {
     /// Compares the division as run and as step, in a window, and left out with a window of 0.
     fn check(&self, tally: &mut Tally) {
         let alone = self.case(&[self.entry()]);
-        let report = match (self.leaks, self.by_zero) {
+        let report = match (self.leaks(), self.by_zero()) {
             (true, _) => [LEAK, 0, 0, 0, 0],
             (false, true) => [ZERO, 0, 0, 0, 0],
             (false, false) => [END, 1, 1, 0, 0],
@@ -150,7 +161,7 @@ impl Division {
             let window = Window { operations, journal: vec![LENT_WORD; 4] };
             let mut after = Speculation { case: case.clone(), window };
             let found = check_speculation(&mut after, LentWords::EXACT, |_| ());
-            let leaks_ahead = self.leaks && operations == 1;
+            let leaks_ahead = self.leaks() && operations == 1;
             let report = if leaks_ahead { [LEAK_AHEAD, 0, 0, 1, 0] } else { [END, 2, 1, 1, 0] };
             assert_eq!(found, Some(report), "a window of {operations} at {self:x?}");
             let State { memory, labels, .. } = after.case.state;
@@ -170,8 +181,6 @@ fn all_divisions() -> impl Iterator<Item = Division> {
         divisor: Varnode { space: REGISTER, offset: 5, size },
         values: [largest_value(size) / 2 + 5, 1],
         secret: [None; 2],
-        leaks: false,
-        by_zero: false,
     };
     DIVISIONS.into_iter().flat_map(move |opcode| {
         GOOD_ORDERS
@@ -193,14 +202,7 @@ fn a_secret_byte_at_each_place_of_dividend_and_divisor() {
         for dividend in none_and_each_byte(division.dividend) {
             for divisor in none_and_each_byte(division.divisor) {
                 for value in [0, 1, largest_value(division.divisor.size)] {
-                    Division {
-                        values: [division.values[0], value],
-                        secret: [dividend, divisor],
-                        leaks: dividend.is_some() || divisor.is_some(),
-                        by_zero: value == 0,
-                        ..division
-                    }
-                    .check(&mut tally);
+                    division.with([dividend, divisor], value).check(&mut tally);
                 }
             }
         }
@@ -216,21 +218,13 @@ fn operands_that_overlap_or_touch() {
         let dividend = division.dividend;
         let size = dividend.size;
         for offset in dividend.offset - size..=dividend.offset + size {
-            let divisor = Varnode { offset, ..dividend };
-            let union_start = offset.min(dividend.offset);
-            let union_end = offset.max(dividend.offset) + size;
-            for secret in (union_start..union_end).map(Some).chain([None]) {
+            let division = Division { divisor: Varnode { offset, ..dividend }, ..division };
+            let first = offset.min(dividend.offset);
+            let end = offset.max(dividend.offset) + size;
+            let all_bytes = Varnode { offset: first, size: end - first, ..dividend };
+            for secret in none_and_each_byte(all_bytes) {
                 for value in [0, 1] {
-                    let byte = secret.map(|offset| Varnode { offset, size: 1, ..dividend });
-                    Division {
-                        divisor,
-                        values: [division.values[0], value],
-                        secret: [byte, None],
-                        leaks: secret.is_some(),
-                        by_zero: value == 0,
-                        ..division
-                    }
-                    .check(&mut tally);
+                    division.with([secret, None], value).check(&mut tally);
                 }
             }
         }
@@ -244,25 +238,18 @@ fn constants_are_public() {
     let mut tally = Tally::default();
     for division in all_divisions() {
         for value in [0, 1] {
-            let values = [division.values[0], value];
-            let [constant0, constant1] = values.map(|offset| Varnode {
-                space: CONSTANT,
-                offset,
-                size: division.dividend.size,
-            });
-            let by_zero = value == 0;
-            let both =
-                Division { dividend: constant0, divisor: constant1, values, by_zero, ..division };
-            both.check(&mut tally);
-            for secret in none_and_each_byte(division.divisor) {
-                let divisor = division.divisor;
-                Division { divisor, secret: [None, secret], leaks: secret.is_some(), ..both }
-                    .check(&mut tally);
+            let Division { dividend, divisor, .. } = division;
+            let division = division.with([None; 2], value);
+            let constant = |offset| Varnode { space: CONSTANT, offset, size: dividend.size };
+            let [constant0, constant1] = division.values.map(constant);
+            Division { dividend: constant0, divisor: constant1, ..division }.check(&mut tally);
+            for secret in none_and_each_byte(divisor) {
+                let by_memory = Division { dividend: constant0, ..division };
+                by_memory.with([None, secret], value).check(&mut tally);
             }
-            for secret in none_and_each_byte(division.dividend) {
-                let dividend = division.dividend;
-                Division { dividend, secret: [secret, None], leaks: secret.is_some(), ..both }
-                    .check(&mut tally);
+            for secret in none_and_each_byte(dividend) {
+                let by_constant = Division { divisor: constant1, ..division };
+                by_constant.with([secret, None], value).check(&mut tally);
             }
         }
     }
