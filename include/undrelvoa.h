@@ -35,9 +35,9 @@ extern "C" {
  * grows where a call changes, in its parameters or in the words that it takes: a program must then be checked
  * and compiled again, since the linker does not notice. The second grows where a call is added or answers
  * otherwise than before, the third where neither is so. */
-#define UNDRELVOA_VERSION "3.2.0"
+#define UNDRELVOA_VERSION "3.3.0"
 #define UNDRELVOA_VERSION_MAJOR 3
-#define UNDRELVOA_VERSION_MINOR 2
+#define UNDRELVOA_VERSION_MINOR 3
 #define UNDRELVOA_VERSION_PATCH 0
 
 /* Limits. The verdict and the runs refuse what is beyond them. */
@@ -53,8 +53,8 @@ extern "C" {
  *
  * A wordsize is how many bytes a pointer into that space counts as one, 1 to 8, also where the space is empty.
  * LOAD and STORE multiply the pointer by that of the space which input0 names; nothing wraps, not at the address
- * size either. Offsets of varnodes count bytes, whatever the wordsize. With wordsizes of 1 all answers are those
- * of version 2. */
+ * size either. Offsets of varnodes count bytes, whatever the wordsize. With a wordsize of 1 a pointer is a byte
+ * offset, as in version 2. */
 #define UNDRELVOA_SETTINGS_ORDER 0             /* byte order: UNDRELVOA_LITTLE or UNDRELVOA_BIG */
 #define UNDRELVOA_SETTINGS_ADDRESS_SIZE 1      /* bytes of an address, 1 to 8 */
 #define UNDRELVOA_SETTINGS_UNIQUE_WORDSIZE 2   /* wordsize of unique */
@@ -316,7 +316,9 @@ uint64_t undrelvoa_step(const uint64_t *settings, size_t settings_len, const uin
  * The endings are those of enum undrelvoa_ending but for 35. After a refusal the labels too are as lent.
  * LEAK is a secret byte in the pointer of LOAD or STORE, the condition of CBRANCH, input0 of BRANCHIND,
  * CALLIND or RETURN, or the dividend or divisor (input0, input1) of INT_DIV, INT_REM, INT_SDIV or INT_SREM.
- * All bytes that an operation writes become secret if a byte that it reads is, else public.
+ * COPY, LOAD, STORE, PIECE, SUBPIECE, INT_ZEXT and INT_SEXT take the label of each byte along, by significance;
+ * zero fill is public, and the fill of INT_SEXT has the label of input0's top byte. All bytes that any other
+ * operation writes become secret if a byte that it reads is, else public.
  * Answers 0 when the report is written, or 11.
  */
 uint64_t undrelvoa_labelled_run(const uint64_t *settings, size_t settings_len, const uint64_t *list,

@@ -7,3 +7,4 @@ pub mod Division
 pub mod Overflow
 pub mod LeftOpen
 pub mod Manual
+pub mod Extension

@@ -1,19 +1,20 @@
 -- The definitions meet the exact conditions.
 use Prim.Native.Nat.{ℕ, zero, suc, _+_, _*_, _-_, _%_, _^_, _<_, _≤_}
+use native.Mathlib.Nat.{zero-add}
 use native.Mathlib.Omega.{arith}
 use mathlib.Core.Path.{_≡_, refl, sym, ap, subst, _∙_}
 use mathlib.Core.Bool.{Bool, true, false, cond, not, _&&_, _||_}
 use mathlib.Core.List.{List, [], _∷_}
 use borrow.Author.Tests.{eqb-true, eqb-false, ltb-true, ltb-false, leb-true, le-leb, lt-leb, ne-eqb, not-false}
 use lib.Dec.{eqb, leb, ltb}
-use lib.ListN.{length, replicate}
+use lib.ListN.{length}
 use Rattle.word.specs.Word.{part, valueOf, bytesOf}
 use Rattle.word.proofs.Laws.{part-length, part-bytes, value-lt}
 use Rattle.arithmetic.specs.Result.{lookup, integerResults, result}
 use Rattle.integer.specs.Operations.{flag, piece, subpiece, intZext}
-use Rattle.arithmetic.specs.Opcodes.{member, opcodes, rowOf, outputs, inputs, hasPlace}
-use Rattle.arithmetic.specs.Operands.{divides}
-use Rattle.integer.proofs.Booleans.{or-false, or-commutes, both, neither}
+use Rattle.arithmetic.specs.Opcodes.{member, opcodes, rowOf, outputs, inputs, sizesOf, hasPlace}
+use Rattle.arithmetic.specs.Operands.{divides, agree, sizesAgree}
+use Rattle.integer.proofs.Booleans.{or-false, both, neither}
 use Rattle.operation.specs.declared.layout.Settings.{Settings}
 use Rattle.operation.specs.declared.layout.Varnode.{Varnode}
 use Rattle.machine.specs.Program.{Program, bigEndian}
@@ -25,8 +26,8 @@ use Rattle.machine.specs.Run.{Stop, Decision, Position, Ended, Stepped, 
 use Rattle.machine.specs.Run.{applyDecision, executeAs, execute, stepped, continued}
 use Rattle.machine.specs.Conditions.{hasSecret, leaks, exceedsSpace, taken, branchTaken, outOfBounds, dividesByZero, writesLog, lowPart, logWordOf, exits}
 use Rattle.machine.specs.Conditions.{destination, nextIndex, destinationBytes, becomesSecret, valueComputed, valueMoved, valueWritten, positionAfter, exactStepWith}
-use Rattle.machine.specs.Conditions.{operand1, labelsAfter, exactStep, exactStepWithin, Words, ExactConditions}
-use Rattle.operation.specs.Rules.{accesses, namesSpace, isDestination, breaksPlace, branches, jumps, relativeTarget}
+use Rattle.machine.specs.Conditions.{labelMoved, labelsTold, operand1, labelsAfter, exactStep, exactStepWithin, Words, ExactConditions}
+use Rattle.operation.specs.Rules.{accesses, namesSpace, isDestination, breaksPlace, breaksSize, branches, jumps, relativeTarget}
 use Rattle.operation.proofs.Targets.{wrapping}
 use lib.IntN.{pos}
 use Rattle.validation.specs.WellFormed.{WellFormed}
@@ -36,7 +37,8 @@ use Rattle.operation.specs.declared.layout.Lengths.{Lengths}
 use Rattle.machine.proofs.Ranges.{in-range}
 use Rattle.machine.proofs.Budget.{Repeats, run-repeats, Ends, stepped-ends}
 use Rattle.machine.proofs.Plain.{none-secret}
-use Rattle.machine.proofs.Moves.{moved-whole, moved-part, moved-both}
+use Rattle.machine.proofs.Moves.{moved-whole, moved-part, moved-extended, moved-both}
+use Rattle.machine.proofs.Labels.{told-one, told-both, told-extended, told-whole}
 
 -- ---- secret bytes
 
@@ -48,7 +50,7 @@ constant-space : (labels : Memory) (space : ℕ) → space ≡ 1 → spaceOf lab
 unfolding spaceOf
 constant-space labels space e = rw e refl
 
-has-secret : (labels : Memory) (v : Varnode) → anySecret (bytesAt labels v) ≡ hasSecret labels v
+pub has-secret : (labels : Memory) (v : Varnode) → anySecret (bytesAt labels v) ≡ hasSecret labels v
 unfolding hasSecret
 has-secret labels v = by (eqb (v .space) 1) refl
   where
@@ -58,9 +60,6 @@ has-secret labels v = by (eqb (v .space) 1) refl
 
 no-space : (labels : Memory) (v : Varnode) → spaceOf labels (v .space) ≡ [] → hasSecret labels v ≡ false
 no-space labels v e = sym (has-secret labels v) ∙ public-space labels v e
-
-pub constant-public : (labels : Memory) (v : Varnode) → v .space ≡ 1 → hasSecret labels v ≡ false
-constant-public labels v e = no-space labels v (constant-space labels (v .space) e)
 
 pub absent-public : (labels : Memory) (v : Varnode) → v ≡ absent → hasSecret labels v ≡ false
 unfolding absent spaceOf
@@ -276,24 +275,24 @@ pub data Destination (i : ℕ) (v : Varnode) : Type 0 where
 -- what is used of a well-formed operation at index i
 pub record Formed (settings : Settings) (m : Memory) (i : ℕ) (op : Operation) : Type 0 where
   pub noOutput : hasPlace (op .opcode) 0 ≡ false → op .output ≡ absent
-  pub noInput1 : hasPlace (op .opcode) 2 ≡ false → op .input1 ≡ absent
   pub named : accesses (op .opcode) ≡ true → namesSpace (op .input0) ≡ true
   pub constant1 : op .opcode ≡ 11 → op .input1 .space ≡ 1
   pub branchTo : branches (op .opcode) ≡ true → Destination i (op .input0)
   pub fits0 : branches (op .opcode) ≡ false → valueAt settings m (op .input0) < 256 ^ op .input0 .size
   pub fits1 : valueAt settings m (op .input1) < 256 ^ op .input1 .size
   pub fits2 : valueAt settings m (op .input2) < 256 ^ op .input2 .size
+  pub extended : op .opcode ≡ 20 → (1 ≤ op .input0 .size) × (op .input0 .size < op .output .size)
 
 module _ (program : Program) (op : Operation) (at : Position) (labels m : Memory) where
-  unfoldable pub exactStepBy : (leak outside byZero due leaves : Bool) (word to next : ℕ) → Varnode → (hidden : Bool) (value : ℕ) → Stepped
-  exactStepBy leak outside byZero due leaves word to next place hidden value =
+  unfoldable pub exactStepBy : (leak outside byZero due leaves : Bool) (word to next : ℕ) → Varnode → (marks : List ℕ) (value : ℕ) → Stepped
+  exactStepBy leak outside byZero due leaves word to next place marks value =
       cond leak (Stepped.halted (ended 31 0 at labels m))
       (cond outside (Stepped.halted (ended 32 0 at labels m))
       (cond byZero (Stepped.halted (ended 33 0 at labels m))
       (cond (due && eqb (at .room) 0) (Stepped.halted (ended 34 0 at labels m))
       (cond leaves (Stepped.halted (ended 1 to (advanced at (at .index) (cond due (word ∷ []) [])) labels m))
       (Stepped.going (advanced at next (cond due (word ∷ []) []))
-      (written labels place (replicate (place .size) (flag hidden)))
+      (written labels place marks)
       (written m place (bytesOf (bigEndian (program .settings)) (place .size) value)))))))
 
   -- the values of input0 and input1
@@ -313,55 +312,54 @@ module _ (program : Program) (op : Operation) (at : Position) (labels m : Memory
 
   exactStep-by : exactStep program op at labels m
       ≡ exactStepBy (leaks labels op) (outOfBounds m op b) (dividesByZero op b) (writesLog op) (exits op b) (logWordOf op (at .index) b)
-      (destination op a) (nextIndex op (at .index) b) (destinationBytes op b) (becomesSecret labels op b) (valueWritten program m op a b)
+      (destination op a) (nextIndex op (at .index) b) (destinationBytes op b) (labelsTold (bigEndian (program .settings)) labels op b (destinationBytes op b .size)) (valueWritten program m op a b)
   unfolding exactStep exactStepWith labelsAfter exactStepBy positionAfter
   exactStep-by = refl
 
   -- what a kind writes, with x as the value of what is tested, is what is told
-  record Writes (k : Kind) (x : ℕ) (place : Varnode) (hidden : Bool) (value : ℕ) : Type 0 where
-    labelled : written labels (target k op x) (labelsWritten (target k op x .size) (sources k op x) labels)
-        ≡ written labels place (replicate (place .size) (flag hidden))
+  record Writes (k : Kind) (x : ℕ) (place : Varnode) (marks : List ℕ) (value : ℕ) : Type 0 where
+    labelled : written labels (target k op x) (labelsWritten (program .settings) op (target k op x .size) (sources k op x) labels) ≡ written labels place marks
     stored : written m (target k op x) (bytesWritten (program .settings) op (target k op x .size) (sources k op x) m)
         ≡ written m place (bytesOf (bigEndian (program .settings)) (place .size) value)
 
-  goes : (k : Kind) (x i : ℕ) (words : List ℕ) {place : Varnode} {hidden : Bool} {value : ℕ} → Writes k x place hidden value
+  goes : (k : Kind) (x i : ℕ) (words : List ℕ) {place : Varnode} {marks : List ℕ} {value : ℕ} → Writes k x place marks value
       → applyDecision program k op at labels m x (Decision.next words i)
-      ≡ Stepped.going (advanced at i words) (written labels place (replicate (place .size) (flag hidden))) (written m place (bytesOf (bigEndian (program .settings)) (place .size) value))
+      ≡ Stepped.going (advanced at i words) (written labels place marks) (written m place (bytesOf (bigEndian (program .settings)) (place .size) value))
   unfolding applyDecision
   goes k x i words w = rw (w .labelled, w .stored) refl
 
-  writes : (k : Kind) (x : ℕ) (place : Varnode) (hidden : Bool) (value : ℕ) → target k op x ≡ place → secret labels (sources k op x) ≡ hidden
-      → bytesWritten (program .settings) op (place .size) (sources k op x) m ≡ bytesOf (bigEndian (program .settings)) (place .size) value → Writes k x place hidden value
-  unfolding labelsWritten
-  writes k x place hidden value e f g = record { labelled = rw (e, f) refl; stored = rw (e, g) refl }
+  writes : (k : Kind) (x : ℕ) (place : Varnode) (marks : List ℕ) (value : ℕ) → target k op x ≡ place
+      → labelsWritten (program .settings) op (place .size) (sources k op x) labels ≡ marks
+      → bytesWritten (program .settings) op (place .size) (sources k op x) m ≡ bytesOf (bigEndian (program .settings)) (place .size) value → Writes k x place marks value
+  writes k x place marks value e f g = record { labelled = rw (e, f) refl; stored = rw (e, g) refl }
 
-  module _ (word to next : ℕ) (place : Varnode) (hidden : Bool) (value : ℕ) where
+  module _ (word to next : ℕ) (place : Varnode) (marks : List ℕ) (value : ℕ) where
     -- a kind with nothing that must be public, and nothing to check
     unchecked : (k : Kind) → sinks k op ≡ [] → ((i extent room x : ℕ) → checked k op i extent room x ≡ Decision.next [] (suc i))
-        → next ≡ suc (at .index) → Writes k (resolvedValue program k op m) place hidden value
-        → executeAs program k op at labels m ≡ exactStepBy false false false false false word to next place hidden value
+        → next ≡ suc (at .index) → Writes k (resolvedValue program k op m) place marks value
+        → executeAs program k op at labels m ≡ exactStepBy false false false false false word to next place marks value
     unfolding executeAs decided resolvedValue tested secret exactStepBy
     unchecked k e f n w = rw (e, f, n) (goes k _ (suc (at .index)) [] w)
 
     jumped : to ≡ a
-        → executeAs program Kind.jump op at labels m ≡ exactStepBy (hasSecret labels (op .input0)) false false false true word to next place hidden value
+        → executeAs program Kind.jump op at labels m ≡ exactStepBy (hasSecret labels (op .input0)) false false false true word to next place marks value
     unfolding executeAs sinks resolvedValue resolved tested exactStepBy applyDecision decided checked endingOf
     jumped e = rw (one-secret labels (op .input0), ← e) (by (hasSecret labels (op .input0)))
       where
         by : (t : Bool) → applyDecision program Kind.jump op at labels m to (cond t (Decision.stop Stop.leak) (Decision.exit [] to))
-            ≡ exactStepBy t false false false true word to next place hidden value
+            ≡ exactStepBy t false false false true word to next place marks value
         by true = refl
         by false = refl
 
-    divided : next ≡ suc (at .index) → Writes Kind.divide value1 place hidden value
+    divided : next ≡ suc (at .index) → Writes Kind.divide value1 place marks value
         → executeAs program Kind.divide op at labels m
-        ≡ exactStepBy (hasSecret labels (op .input1) || hasSecret labels (op .input0)) false (eqb value1 0) false false word to next place hidden value
+        ≡ exactStepBy (hasSecret labels (op .input1) || hasSecret labels (op .input0)) false (eqb value1 0) false false word to next place marks value
     unfolding executeAs resolvedValue resolved tested exactStepBy applyDecision decided checked endingOf
     divided n w = rw (division-secret labels op, n) (by (hasSecret labels (op .input1) || hasSecret labels (op .input0)) (eqb value1 0))
       where
         by : (t z : Bool) → applyDecision program Kind.divide op at labels m value1
             (cond t (Decision.stop Stop.leak) (cond z (Decision.stop Stop.zeroDivisor) (Decision.next [] (suc (at .index)))))
-            ≡ exactStepBy t false z false false word to (suc (at .index)) place hidden value
+            ≡ exactStepBy t false z false false word to (suc (at .index)) place marks value
         by true z = refl
         by false true = refl
         by false false = goes Kind.divide value1 (suc (at .index)) [] w
@@ -370,35 +368,34 @@ module _ (program : Program) (op : Operation) (at : Position) (labels m : Memory
     accessed : (k : Kind) (size : ℕ) → sinks k op ≡ op .input1 ∷ [] → tested k op ≡ op .input1 → ((x : ℕ) → resolved (program .settings) k op x ≡ byteOffset (program .settings) op x)
         → ((i extent room x : ℕ) → checked k op i extent room x ≡ access i extent room x size)
         → next ≡ suc (at .index) → word ≡ logWord (at .index) offset1
-        → (hasSecret labels (op .input1) ≡ false → Writes k offset1 place hidden value)
+        → Writes k offset1 place marks value
         → executeAs program k op at labels m
         ≡ exactStepBy (hasSecret labels (op .input1)) (not (leb (offset1 + size) (length (spaceOf m (op .input0 .offset))))) false true false
-        word to next place hidden value
+        word to next place marks value
     unfolding executeAs resolvedValue tested exactStepBy applyDecision decided access logging endingOf
     accessed k size g u v c n l w =
         rw (g, u, v value1, c, one-secret labels (op .input1), n, l)
-        (by (hasSecret labels (op .input1)) refl (leb (offset1 + size) (length (spaceOf m (op .input0 .offset)))) (eqb (at .room) 0))
+        (by (hasSecret labels (op .input1)) (leb (offset1 + size) (length (spaceOf m (op .input0 .offset)))) (eqb (at .room) 0))
       where
         written-word : ℕ
         written-word = logWord (at .index) offset1
 
-        by : (t : Bool) → hasSecret labels (op .input1) ≡ t → (u z : Bool)
-            → applyDecision program k op at labels m offset1
+        by : (t u z : Bool) → applyDecision program k op at labels m offset1
             (cond t (Decision.stop Stop.leak) (cond u (cond z (Decision.stop Stop.logFull) (Decision.next (written-word ∷ []) (suc (at .index)))) (Decision.stop Stop.bounds)))
             ≡ cond t (Stepped.halted (ended 31 0 at labels m))
             (cond (not u) (Stepped.halted (ended 32 0 at labels m))
             (cond z (Stepped.halted (ended 34 0 at labels m))
             (Stepped.going (advanced at (suc (at .index)) (written-word ∷ []))
-            (written labels place (replicate (place .size) (flag hidden)))
+            (written labels place marks)
             (written m place (bytesOf (bigEndian (program .settings)) (place .size) value)))))
-        by true e u z = refl
-        by false e false z = refl
-        by false e true true = refl
-        by false e true false = goes k offset1 (suc (at .index)) (written-word ∷ []) (w e)
+        by true u z = refl
+        by false false z = refl
+        by false true true = refl
+        by false true false = goes k offset1 (suc (at .index)) (written-word ∷ []) w
 
     -- BRANCH, CALL and CBRANCH write nothing
     module _ (k : Kind) (x : ℕ) (nothing : target k op x ≡ absent) (e : place ≡ absent) where
-      writes-nothing : Writes k x place hidden value
+      writes-nothing : Writes k x place marks value
       writes-nothing = record {
         labelled = absent-written labels (target k op x) _ nothing ∙ sym (absent-written labels place _ e);
         stored = absent-written m (target k op x) _ nothing ∙ sym (absent-written m place _ e);
@@ -408,14 +405,14 @@ module _ (program : Program) (op : Operation) (at : Position) (labels m : Memory
           → applyDecision program k op at labels m x (goTo (at .index) (op .input0) words)
           ≡ cond (eqb (op .input0 .space) 4) (Stepped.halted (ended 1 (op .input0 .offset) (advanced at (at .index) words) labels m))
           (Stepped.going (advanced at (cond (eqb (op .input0 .space) 1) ((at .index + op .input0 .offset) % 2 ^ 64) (suc (at .index))) words)
-          (written labels place (replicate (place .size) (flag hidden))) (written m place (bytesOf (bigEndian (program .settings)) (place .size) value)))
+          (written labels place marks) (written m place (bytesOf (bigEndian (program .settings)) (place .size) value)))
       unfolding goTo applyDecision
       gone words (inList s f l) = rw (s, f, l) (goes k x ((at .index + op .input0 .offset) % 2 ^ 64) words writes-nothing)
       gone words (inRam s f) = rw (s, f) refl
 
     branched : to ≡ op .input0 .offset → next ≡ cond (eqb (op .input0 .space) 1) ((at .index + op .input0 .offset) % 2 ^ 64) (suc (at .index))
         → place ≡ absent → Destination (at .index) (op .input0)
-        → executeAs program Kind.branch op at labels m ≡ exactStepBy false false false false (eqb (op .input0 .space) 4) word to next place hidden value
+        → executeAs program Kind.branch op at labels m ≡ exactStepBy false false false false (eqb (op .input0 .space) 4) word to next place marks value
     unfolding executeAs sinks resolvedValue resolved tested secret decided checked exactStepBy target
     branched t n e d = rw (t, n) (gone Kind.branch _ refl e [] d)
 
@@ -423,7 +420,7 @@ module _ (program : Program) (op : Operation) (at : Position) (labels m : Memory
         → next ≡ cond (not (eqb value1 0) && eqb (op .input0 .space) 1) ((at .index + op .input0 .offset) % 2 ^ 64) (suc (at .index))
         → place ≡ absent → Destination (at .index) (op .input0)
         → executeAs program Kind.cbranch op at labels m
-        ≡ exactStepBy (hasSecret labels (op .input1)) false false true (not (eqb value1 0) && eqb (op .input0 .space) 4) word to next place hidden value
+        ≡ exactStepBy (hasSecret labels (op .input1)) false false true (not (eqb value1 0) && eqb (op .input0 .space) 4) word to next place marks value
     unfolding executeAs sinks resolvedValue resolved tested decided checked applyDecision exactStepBy target logging flag endingOf
     cbranched l t n e d =
         rw (one-secret labels (op .input1), l, t, n) (by (hasSecret labels (op .input1)) (eqb value1 0) (eqb (at .room) 0))
@@ -439,7 +436,7 @@ module _ (program : Program) (op : Operation) (at : Position) (labels m : Memory
             (Stepped.halted (ended 1 (op .input0 .offset) (advanced at (at .index) (logWord (at .index) (flag (not z)) ∷ [])) labels m))
             (Stepped.going
             (advanced at (cond (not z && eqb (op .input0 .space) 1) ((at .index + op .input0 .offset) % 2 ^ 64) (suc (at .index))) (logWord (at .index) (flag (not z)) ∷ []))
-            (written labels place (replicate (place .size) (flag hidden)))
+            (written labels place marks)
             (written m place (bytesOf (bigEndian (program .settings)) (place .size) value)))))
         by true z f = refl
         by false true true = refl
@@ -464,7 +461,7 @@ module _ (program : Program) (op : Operation) (at : Position) (labels m : Memory
       (cond (c .indirect) (a) (op .input0 .offset))
       (cond ((c .direct || (c .condition && not (eqb x 0))) && eqb (op .input0 .space) 1) ((at .index + op .input0 .offset) % 2 ^ 64) (suc (at .index)))
       (cond (c .stores) (pointee op x (op .input2 .size)) (op .output))
-      (cond (c .stores) (hasSecret labels (op .input2)) (s0 || s1 || (c .loads && hasSecret labels (pointee op x (op .output .size)))))
+      (labelsTold (bigEndian (program .settings)) labels op b (cond (c .stores) (pointee op x (op .input2 .size)) (op .output) .size))
       (valueWritten program m op a b)
 
   exactStep-as : (c : Class) → classOf (op .opcode) ≡ c → executeAs program (c .kind) op at labels m ≡ exactStepAs c → execute program op at labels m ≡ exactStep program op at labels m
@@ -482,49 +479,27 @@ module _ (program : Program) (op : Operation) (at : Position) (labels m : Memory
     abbrev Bytes : (size : ℕ) → List Varnode → Type 0
     Bytes size vs = bytesWritten (program .settings) op size vs m ≡ bytesOf (bigEndian (program .settings)) size (valueWritten program m op a b)
 
-    unread-input1 : hasSecret labels (op .input1) ≡ false
-        → secret labels (op .input0 ∷ []) ≡ hasSecret labels (op .input0) || hasSecret labels (op .input1) || false
-    unread-input1 e = one-secret labels (op .input0) ∙ rw e (sym (or-false _ ∙ or-false _))
+    -- the labels written are those told
+    abbrev Labels : (size : ℕ) → List Varnode → Type 0
+    Labels size vs = labelsWritten (program .settings) op size vs labels ≡ labelsTold (bigEndian (program .settings)) labels op b size
 
-    meets-copy : classOf (op .opcode) ≡ free Kind.copy → hasPlace (op .opcode) 2 ≡ false
-        → Bytes (op .output .size) (op .input0 ∷ []) → Meets
-    unfolding free exactStepAs sinks checked target sources
-    meets-copy c p e =
-        exactStep-as (free Kind.copy) c
-        (unchecked _ _ _ _ _ _ Kind.copy refl (λ i extent room x. refl) refl
-        (writes Kind.copy _ _ _ _ refl (unread-input1 (absent-public labels (op .input1) (f .noInput1 p))) e))
+    -- nothing that must be public, and nothing to check
+    meets-free : (k : Kind) (vs : List Varnode) → classOf (op .opcode) ≡ free k → sinks k op ≡ []
+        → ((i extent room x : ℕ) → checked k op i extent room x ≡ Decision.next [] (suc i))
+        → target k op (resolvedValue program k op m) ≡ op .output → sources k op (resolvedValue program k op m) ≡ vs
+        → Bytes (op .output .size) vs → Labels (op .output .size) vs → Meets
+    unfolding free exactStepAs
+    meets-free k vs c n g t q e l =
+        exactStep-as (free k) c (unchecked _ _ _ _ _ _ k n g refl (writes k _ _ _ _ t (rw q l) (rw q e)))
 
-    meets-subpiece : classOf (op .opcode) ≡ free Kind.subpiece → op .input1 .space ≡ 1
-        → Bytes (op .output .size) (op .input0 ∷ []) → Meets
-    unfolding free exactStepAs sinks checked target sources
-    meets-subpiece c p e =
-        exactStep-as (free Kind.subpiece) c
-        (unchecked _ _ _ _ _ _ Kind.subpiece refl (λ i extent room x. refl) refl
-        (writes Kind.subpiece _ _ _ _ refl (unread-input1 (constant-public labels (op .input1) p)) e))
-
-    meets-piece : classOf (op .opcode) ≡ free Kind.piece
-        → Bytes (op .output .size) (op .input1 ∷ op .input0 ∷ []) → Meets
-    unfolding free exactStepAs sinks checked target sources
-    meets-piece c e =
-        exactStep-as (free Kind.piece) c
-        (unchecked _ _ _ _ _ _ Kind.piece refl (λ i extent room x. refl) refl
-        (writes Kind.piece _ _ _ _ refl
-        (two-secret labels (op .input1) (op .input0) ∙ or-commutes (hasSecret labels (op .input1)) (hasSecret labels (op .input0)) ∙ sym (or-false _)) e))
-
-    both-read : secret labels (op .input0 ∷ op .input1 ∷ []) ≡ hasSecret labels (op .input0) || hasSecret labels (op .input1) || false
-    both-read = two-secret labels (op .input0) (op .input1) ∙ sym (or-false _)
-
-    meets-compute : classOf (op .opcode) ≡ free Kind.compute
-        → Bytes (op .output .size) (op .input0 ∷ op .input1 ∷ []) → Meets
-    unfolding free exactStepAs sinks checked target sources
-    meets-compute c e =
-        exactStep-as (free Kind.compute) c
-        (unchecked _ _ _ _ _ _ Kind.compute refl (λ i extent room x. refl) refl (writes Kind.compute _ _ _ _ refl both-read e))
+    meets-copy : classOf (op .opcode) ≡ free Kind.copy → Bytes (op .output .size) (op .input0 ∷ []) → Labels (op .output .size) (op .input0 ∷ []) → Meets
+    unfolding sinks checked target sources
+    meets-copy c = meets-free Kind.copy (op .input0 ∷ []) c refl (λ i extent room x. refl) refl refl
 
     meets-divide : classOf (op .opcode) ≡ divisions
-        → Bytes (op .output .size) (op .input0 ∷ op .input1 ∷ []) → Meets
+        → Bytes (op .output .size) (op .input0 ∷ op .input1 ∷ []) → Labels (op .output .size) (op .input0 ∷ op .input1 ∷ []) → Meets
     unfolding divisions exactStepAs target sources
-    meets-divide c e = exactStep-as divisions c (divided _ _ _ _ _ _ refl (writes Kind.divide _ _ _ _ refl both-read e))
+    meets-divide c e l = exactStep-as divisions c (divided _ _ _ _ _ _ refl (writes Kind.divide _ _ _ _ refl l e))
 
     meets-jump : classOf (op .opcode) ≡ indirectBranches → Meets
     unfolding indirectBranches exactStepAs
@@ -552,10 +527,10 @@ module _ (program : Program) (op : Operation) (at : Position) (labels m : Memory
         value-fits (program .settings) m (pointee op offset1 size) bytes
         (λ e. let k : 2 ≤ op .input0 .offset = names-bytes (op .input0) (f .named a) .1 in absurd (let z : ⊥ = omega arith in z))
 
-    meets-load : classOf (op .opcode) ≡ load → op .input0 .space ≡ 1
-        → Bytes (op .output .size) (pointee op offset1 (op .output .size) ∷ []) → Meets
+    meets-load : classOf (op .opcode) ≡ load → Bytes (op .output .size) (pointee op offset1 (op .output .size) ∷ [])
+        → Labels (op .output .size) (pointee op offset1 (op .output .size) ∷ []) → Meets
     unfolding load exactStepAs sinks tested resolved checked target sources pointee exceedsSpace logWord
-    meets-load c s e =
+    meets-load c e l =
         exactStep-as load c
         (rw (
           or-false (hasSecret labels (op .input1)),
@@ -565,12 +540,11 @@ module _ (program : Program) (op : Operation) (at : Position) (labels m : Memory
           or-false (not (leb (offset1 + op .output .size) (length (spaceOf m (op .input0 .offset))))),
         )
         (accessed _ _ _ _ _ _ Kind.load (op .output .size) refl refl (λ x. refl) (λ i extent room x. refl) refl refl
-        (λ p. writes Kind.load _ _ _ _ refl (one-secret labels (pointee op offset1 (op .output .size)) ∙ rw (p, constant-public labels (op .input0) s) refl) e)))
+        (writes Kind.load _ _ _ _ refl l e)))
 
-    meets-store : classOf (op .opcode) ≡ store
-        → Bytes (op .input2 .size) (op .input2 ∷ []) → Meets
+    meets-store : classOf (op .opcode) ≡ store → Bytes (op .input2 .size) (op .input2 ∷ []) → Labels (op .input2 .size) (op .input2 ∷ []) → Meets
     unfolding store exactStepAs sinks tested resolved checked target sources pointee exceedsSpace logWord
-    meets-store c e =
+    meets-store c e l =
         exactStep-as store c
         (rw (
           or-false (hasSecret labels (op .input1)),
@@ -579,72 +553,119 @@ module _ (program : Program) (op : Operation) (at : Position) (labels m : Memory
           or-false (hasSecret labels (op .input1)),
         )
         (accessed _ _ _ _ _ _ Kind.store (op .input2 .size) refl refl (λ x. refl) (λ i extent room x. refl) refl refl
-        (λ p. writes Kind.store _ _ _ _ refl (one-secret labels (op .input2)) e)))
+        (writes Kind.store _ _ _ _ refl l e)))
 
     -- ---- one operation, by its opcode
 
     bytes-copy : op .opcode ≡ 1 → Bytes (op .output .size) (op .input0 ∷ [])
     unfolding operand1 valueWritten valueMoved valueComputed moves dropped member branches
-    bytes-copy e = moved-whole (program .settings) op m (op .input0) (op .output .size) (rw e refl) (rw e refl) bytes (f .fits0 (rw e refl)) ∙ rw e refl
+    bytes-copy e = moved-whole (program .settings) op m (op .output .size) (op .input0) (rw e refl) bytes (f .fits0 (rw e refl)) (rw e refl) (rw e refl) ∙ rw e refl
 
     bytes-zext : op .opcode ≡ 19 → Bytes (op .output .size) (op .input0 ∷ [])
     unfolding operand1 valueWritten valueMoved valueComputed result integerResults lookup intZext moves dropped member branches
-    bytes-zext e = moved-whole (program .settings) op m (op .input0) (op .output .size) (rw e refl) (rw e refl) bytes (f .fits0 (rw e refl)) ∙ rw e refl
+    bytes-zext e = moved-whole (program .settings) op m (op .output .size) (op .input0) (rw e refl) bytes (f .fits0 (rw e refl)) (rw e refl) (rw e refl) ∙ rw e refl
+
+    bytes-sext : op .opcode ≡ 20 → Bytes (op .output .size) (op .input0 ∷ [])
+    unfolding operand1 valueWritten valueMoved valueComputed result integerResults lookup moves dropped member branches
+    bytes-sext e =
+        moved-extended (program .settings) op m (op .output .size) (op .input0) (rw e refl) bytes (f .fits0 (rw e refl)) e (f .extended e .0) (f .extended e .1) ∙ rw e refl
 
     bytes-load : op .opcode ≡ 2 → Bytes (op .output .size) (pointee op offset1 (op .output .size) ∷ [])
     unfolding operand1 byteOffset valueWritten valueMoved valueComputed moves dropped member accesses pointee
     bytes-load e =
-        moved-whole (program .settings) op m (pointee op offset1 (op .output .size)) (op .output .size) (rw e refl) (rw e refl) bytes (pointee-fits (rw e refl) (op .output .size)) ∙ rw e refl
+        moved-whole (program .settings) op m (op .output .size) (pointee op offset1 (op .output .size)) (rw e refl) bytes (pointee-fits (rw e refl) (op .output .size)) (rw e refl) (rw e refl) ∙ rw e refl
 
     bytes-store : op .opcode ≡ 3 → Bytes (op .input2 .size) (op .input2 ∷ [])
     unfolding operand1 valueWritten valueMoved valueComputed moves dropped member
-    bytes-store e = moved-whole (program .settings) op m (op .input2) (op .input2 .size) (rw e refl) (rw e refl) bytes (f .fits2) ∙ rw e refl
+    bytes-store e = moved-whole (program .settings) op m (op .input2 .size) (op .input2) (rw e refl) bytes (f .fits2) (rw e refl) (rw e refl) ∙ rw e refl
+
+    -- what computes a number is no COPY, LOAD or STORE
+    others : moves op ≡ false → (eqb (op .opcode) 1 ≡ false) × (eqb (op .opcode) 2 ≡ false) × (eqb (op .opcode) 3 ≡ false)
+    unfolding moves member
+    others e =
+        let n1 = neither (eqb (op .opcode) 1) (member (op .opcode) (2 ∷ 3 ∷ 10 ∷ 11 ∷ 19 ∷ 20 ∷ [])) e in
+        let n2 = neither (eqb (op .opcode) 2) (member (op .opcode) (3 ∷ 10 ∷ 11 ∷ 19 ∷ 20 ∷ [])) (n1 .1) in
+        let n3 = neither (eqb (op .opcode) 3) (member (op .opcode) (10 ∷ 11 ∷ 19 ∷ 20 ∷ [])) (n2 .1) in
+        (n1 .0, n2 .0, n3 .0)
 
     bytes-computed : moves op ≡ false → Bytes (op .output .size) (op .input0 ∷ op .input1 ∷ [])
     unfolding operand1 valueWritten valueMoved valueComputed moves member
     bytes-computed e =
-        calculated (program .settings) op m (op .output .size) e
-        ∙ (let n1 = neither (eqb (op .opcode) 1) (member (op .opcode) (2 ∷ 3 ∷ 10 ∷ 11 ∷ 19 ∷ [])) e in
-        let n2 = neither (eqb (op .opcode) 2) (member (op .opcode) (3 ∷ 10 ∷ 11 ∷ 19 ∷ [])) (n1 .1) in
-        let n3 = neither (eqb (op .opcode) 3) (member (op .opcode) (10 ∷ 11 ∷ 19 ∷ [])) (n2 .1) in
-        rw (n1 .0, n2 .0, n3 .0) refl)
+        calculated (program .settings) op m (op .output .size) e ∙ (let o = others e in rw (o .0, o .1, o .2) refl)
 
     bytes-piece : op .opcode ≡ 10 → Bytes (op .output .size) (op .input1 ∷ op .input0 ∷ [])
     unfolding operand1 valueWritten valueMoved valueComputed result integerResults lookup piece moves dropped member branches
     bytes-piece e =
-        moved-both (program .settings) op m (op .input0) (op .input1) (op .output .size) (rw e refl) (rw e refl) bytes (f .fits0 (rw e refl)) (f .fits1) ∙ rw e refl
+        moved-both (program .settings) op m (op .input0) (op .input1) bytes (op .output .size) (rw e refl) (rw e refl) (rw e refl) (f .fits0 (rw e refl)) (f .fits1) ∙ rw e refl
 
     bytes-subpiece : op .opcode ≡ 11 → Bytes (op .output .size) (op .input0 ∷ [])
     unfolding operand1 valueWritten valueMoved valueComputed result integerResults lookup subpiece moves dropped member branches
     bytes-subpiece e =
-        moved-part (program .settings) op m (op .input0) (op .input1 .offset) (op .output .size) (rw e refl) (rw e refl) bytes (f .fits0 (rw e refl))
+        moved-part (program .settings) op m (op .output .size) (op .input0) (rw e refl) bytes (f .fits0 (rw e refl)) (op .input1 .offset) (rw e refl) (rw e refl)
         ∙ ap (λ (k : ℕ). bytesOf (bigEndian (program .settings)) (op .output .size) (subpiece (op .output .size) a k)) (sym (constant-value (program .settings) m (op .input1) (f .constant1 e)))
         ∙ rw e refl
 
-    names-a-space : accesses (op .opcode) ≡ true → op .input0 .space ≡ 1
-    names-a-space a = names-bytes (op .input0) (f .named a) .0
+    -- ---- the labels written, by the opcode
+
+    labels-copy : op .opcode ≡ 1 → Labels (op .output .size) (op .input0 ∷ [])
+    unfolding moves dropped member labelMoved
+    labels-copy e = told-one (program .settings) op labels b (op .output .size) (op .input0) (rw e refl) (rw e refl) 0 (rw e refl) (λ k. rw (e, zero-add k) refl)
+
+    labels-zext : op .opcode ≡ 19 → Labels (op .output .size) (op .input0 ∷ [])
+    unfolding moves dropped member labelMoved
+    labels-zext e = told-one (program .settings) op labels b (op .output .size) (op .input0) (rw e refl) (rw e refl) 0 (rw e refl) (λ k. rw (e, zero-add k) refl)
+
+    labels-load : op .opcode ≡ 2 → Labels (op .output .size) (pointee op offset1 (op .output .size) ∷ [])
+    unfolding operand1 byteOffset moves dropped member labelMoved
+    labels-load e =
+        told-one (program .settings) op labels b (op .output .size) (pointee op offset1 (op .output .size)) (rw e refl) (rw e refl) 0 (rw e refl) (λ k. rw (e, zero-add k) refl)
+
+    labels-store : op .opcode ≡ 3 → Labels (op .input2 .size) (op .input2 ∷ [])
+    unfolding moves dropped member labelMoved
+    labels-store e = told-one (program .settings) op labels b (op .input2 .size) (op .input2) (rw e refl) (rw e refl) 0 (rw e refl) (λ k. rw (e, zero-add k) refl)
+
+    labels-subpiece : op .opcode ≡ 11 → Labels (op .output .size) (op .input0 ∷ [])
+    unfolding moves dropped member labelMoved
+    labels-subpiece e = told-one (program .settings) op labels b (op .output .size) (op .input0) (rw e refl) (rw e refl) (op .input1 .offset) (rw e refl) (λ k. rw e refl)
+
+    labels-piece : op .opcode ≡ 10 → Labels (op .output .size) (op .input1 ∷ op .input0 ∷ [])
+    unfolding moves dropped member labelMoved
+    labels-piece e = told-both (program .settings) op labels b (op .output .size) (rw e refl) (rw e refl) (rw e refl) (λ k. rw e refl)
+
+    labels-sext : op .opcode ≡ 20 → Labels (op .output .size) (op .input0 ∷ [])
+    unfolding moves member labelMoved
+    labels-sext e = told-extended (program .settings) op labels b (op .output .size) (rw e refl) e (λ k. rw e refl)
+
+    labels-computed : moves op ≡ false → Labels (op .output .size) (op .input0 ∷ op .input1 ∷ [])
+    unfolding becomesSecret
+    labels-computed e =
+        told-whole (program .settings) op labels b (op .output .size) (op .input0 ∷ op .input1 ∷ []) e
+        (let o = others e in two-secret labels (op .input0) (op .input1) ∙ rw (o .1, o .2) (sym (or-false _)))
 
     pub meets : Meets
     unfolding classOf kindOf branches jumps divides accesses member moves hasPlace outputs inputs rowOf opcodes free divisions indirectBranches directBranches conditionalBranch load store
+        sinks checked target sources
     meets =
-        when (op .opcode) 1 (λ e. meets-copy (ap classOf e) (rw e refl) (bytes-copy e)) (λ n1.
-        when (op .opcode) 2 (λ e. meets-load (ap classOf e) (names-a-space (rw e refl)) (bytes-load e)) (λ n2.
-        when (op .opcode) 3 (λ e. meets-store (ap classOf e) (bytes-store e)) (λ n3.
+        when (op .opcode) 1 (λ e. meets-copy (ap classOf e) (bytes-copy e) (labels-copy e)) (λ n1.
+        when (op .opcode) 2 (λ e. meets-load (ap classOf e) (bytes-load e) (labels-load e)) (λ n2.
+        when (op .opcode) 3 (λ e. meets-store (ap classOf e) (bytes-store e) (labels-store e)) (λ n3.
         when (op .opcode) 4 (λ e. meets-branch (ap classOf e) (f .noOutput (rw e refl)) (f .branchTo (rw e refl))) (λ n4.
         when (op .opcode) 5 (λ e. meets-cbranch (ap classOf e) (f .noOutput (rw e refl)) (f .branchTo (rw e refl))) (λ n5.
         when (op .opcode) 6 (λ e. meets-jump (ap classOf e)) (λ n6.
         when (op .opcode) 7 (λ e. meets-branch (ap classOf e) (f .noOutput (rw e refl)) (f .branchTo (rw e refl))) (λ n7.
         when (op .opcode) 8 (λ e. meets-jump (ap classOf e)) (λ n8.
         when (op .opcode) 9 (λ e. meets-jump (ap classOf e)) (λ n9.
-        when (op .opcode) 10 (λ e. meets-piece (ap classOf e) (bytes-piece e)) (λ n10.
-        when (op .opcode) 11 (λ e. meets-subpiece (ap classOf e) (f .constant1 e) (bytes-subpiece e)) (λ n11.
-        when (op .opcode) 19 (λ e. meets-copy (ap classOf e) (rw e refl) (bytes-zext e)) (λ n19.
-        when (op .opcode) 35 (λ e. meets-divide (ap classOf e) (bytes-computed (rw e refl))) (λ n35.
-        when (op .opcode) 36 (λ e. meets-divide (ap classOf e) (bytes-computed (rw e refl))) (λ n36.
-        when (op .opcode) 37 (λ e. meets-divide (ap classOf e) (bytes-computed (rw e refl))) (λ n37.
-        when (op .opcode) 38 (λ e. meets-divide (ap classOf e) (bytes-computed (rw e refl))) (λ n38.
-        meets-compute (rw (no-division (op .opcode) n35 n36 n37 n38, n1, n2, n3, n4, n5, n6, n7, n8, n9, n10, n11, n19, n35, n36, n37, n38) refl)
-        (bytes-computed (rw (n1, n2, n3, n10, n11, n19) refl))))))))))))))))))
+        when (op .opcode) 10 (λ e. meets-free Kind.piece (op .input1 ∷ op .input0 ∷ []) (ap classOf e) refl (λ i extent room x. refl) refl refl (bytes-piece e) (labels-piece e)) (λ n10.
+        when (op .opcode) 11 (λ e. meets-free Kind.subpiece (op .input0 ∷ []) (ap classOf e) refl (λ i extent room x. refl) refl refl (bytes-subpiece e) (labels-subpiece e)) (λ n11.
+        when (op .opcode) 19 (λ e. meets-copy (ap classOf e) (bytes-zext e) (labels-zext e)) (λ n19.
+        when (op .opcode) 20 (λ e. meets-copy (ap classOf e) (bytes-sext e) (labels-sext e)) (λ n20.
+        when (op .opcode) 35 (λ e. meets-divide (ap classOf e) (bytes-computed (rw e refl)) (labels-computed (rw e refl))) (λ n35.
+        when (op .opcode) 36 (λ e. meets-divide (ap classOf e) (bytes-computed (rw e refl)) (labels-computed (rw e refl))) (λ n36.
+        when (op .opcode) 37 (λ e. meets-divide (ap classOf e) (bytes-computed (rw e refl)) (labels-computed (rw e refl))) (λ n37.
+        when (op .opcode) 38 (λ e. meets-divide (ap classOf e) (bytes-computed (rw e refl)) (labels-computed (rw e refl))) (λ n38.
+        meets-free Kind.compute (op .input0 ∷ op .input1 ∷ [])
+        (rw (no-division (op .opcode) n35 n36 n37 n38, n1, n2, n3, n4, n5, n6, n7, n8, n9, n10, n11, n19, n20, n35, n36, n37, n38) refl) refl (λ i extent room x. refl) refl refl
+        (bytes-computed (rw (n1, n2, n3, n10, n11, n19, n20) refl)) (labels-computed (rw (n1, n2, n3, n10, n11, n19, n20) refl)))))))))))))))))))
 
 -- ---- a well-formed operation
 
@@ -680,19 +701,28 @@ module _ (opcode : ℕ) (v : Varnode) where
   unfolding breaksPlace
   is-constant p e = eqb-true (v .space) 1 (not-false (eqb (v .space) 1) (rw e at p))
 
+-- rules 22 and 25, of INT_SEXT
+extends : (opcode : ℕ) → opcode ≡ 20 → hasPlace opcode 1 ≡ true
+unfolding hasPlace outputs inputs rowOf opcodes
+extends opcode e = rw e refl
+
+larger : (addressSize opcode size size0 size1 : ℕ) → opcode ≡ 20 → breaksSize addressSize opcode size size0 size1 ≡ false → size0 < size
+unfolding breaksSize sizesAgree agree sizesOf rowOf opcodes
+larger addressSize opcode size size0 size1 e h = ltb-true size0 size (not-false (ltb size0 size) (rw e at h))
+
 module _ (settings : Settings) (addressSize : ℕ) (list : List ℕ) (i : ℕ) (m : Memory) (words : Words list) (b : OfBytes m)
     (small : operationCount list < 2 ^ 64) (w : WellFormed addressSize (lengthsOf m) list i) where
   pub formed : Formed settings m i (operationAt list i)
   unfolding operationAt absent varnodeAt describedBy offsetAt wordAt
   formed = record {
     noOutput = λ e. w .omitted 0 (omega arith) e;
-    noInput1 = λ e. w .omitted 2 (omega arith) e;
     named = λ e. names _ _ (w .placed 1 (omega arith)) e;
     constant1 = λ e. is-constant _ _ (w .placed 2 (omega arith)) e;
     branchTo = λ e. destination-of i (operationCount list) (varnodeAt list i 1) (leads _ _ (w .placed 1 (omega arith)) e) (words _) small (λ s. w .target e s);
     fits0 = λ e. value-fits settings m (varnodeAt list i 1) b (w .constant 1 (omega arith) (λ k. e));
     fits1 = value-fits settings m (varnodeAt list i 2) b (w .constant 2 (omega arith) (λ k. absurd (let z : ⊥ = omega arith in z)));
     fits2 = value-fits settings m (varnodeAt list i 3) b (w .constant 3 (omega arith) (λ k. absurd (let z : ⊥ = omega arith in z)));
+    extended = λ e. (w .present 1 (omega arith) (extends _ e) .2, larger _ _ _ _ _ e (w .sized));
   }
 
 -- ---- the run

@@ -3,19 +3,22 @@ use Prim.Native.Nat.{ℕ, zero, suc, _+_, _≤_}
 use native.Mathlib.Omega.{arith}
 use mathlib.Core.Path.{_≡_, refl, _∙_}
 use mathlib.Core.Bool.{Bool, true, false, cond, _&&_}
-use mathlib.Core.List.{List, [], _∷_}
+use mathlib.Core.List.{List, [], _∷_, _++_}
 use borrow.Author.Tests.{eqb-false}
-use lib.ListN.{length, set, replicate, length-append}
+use lib.ListN.{length, getD, set, replicate, length-append}
 use lib.Seq.{sets, length-sets}
 use lib.Dec.{ltb, leb, eqb}
+use Rattle.word.specs.Sum.{tabulate}
+use Rattle.word.specs.Word.{part, significance}
 use Rattle.integer.specs.Operations.{flag}
 use Rattle.integer.proofs.Booleans.{both}
+use Rattle.operation.specs.declared.layout.Settings.{Settings}
 use Rattle.operation.specs.declared.layout.Varnode.{Varnode}
 use Rattle.operation.specs.declared.layout.Lengths.{Lengths}
 use Rattle.operation.specs.Layout.{operationCount}
-use Rattle.machine.specs.Program.{Program}
-use Rattle.machine.specs.Memory.{Memory, lengthsOf, spaceOf, withSpace, written}
-use Rattle.machine.specs.Effect.{Operation, Kind, operationAt, sources, target, secret, labelsWritten}
+use Rattle.machine.specs.Program.{Program, bigEndian}
+use Rattle.machine.specs.Memory.{Memory, lengthsOf, spaceOf, withSpace, bytesAt, written, ordered}
+use Rattle.machine.specs.Effect.{Operation, Kind, operationAt, target, moves, Origin, origin, entryFrom, moved, secret, labelsOf, labelFill, labelsWritten}
 use Rattle.machine.specs.Run.{Stop, Decision, Position, Ended, Stepped, logging, goTo, access, checked, decided, advanced, ended, applyDecision, executeAs, execute}
 use Rattle.machine.specs.Run.{stepped, continued}
 use Rattle.machine.specs.Calls.{allLabels, labelsInRange}
@@ -59,6 +62,57 @@ all-flags : (n : ℕ) (t : Bool) → allLabels (replicate n (flag t)) ≡ true
 unfolding allLabels
 all-flags zero t = refl
 all-flags (suc n) t = rw (flag-label t, all-flags n t)
+
+all-at : (ls : List ℕ) → allLabels ls ≡ true → (i : ℕ) → leb (getD ls i 0) 1 ≡ true
+unfolding allLabels
+all-at [] h i = refl
+all-at (l ∷ ls) h zero = both (leb l 1) (allLabels ls) h .0
+all-at (l ∷ ls) h (suc i) = all-at ls (both (leb l 1) (allLabels ls) h .1) i
+
+all-tabulate : (n : ℕ) (f : ℕ → ℕ) → ((i : ℕ) → leb (f i) 1 ≡ true) → allLabels (tabulate n f) ≡ true
+unfolding allLabels tabulate
+all-tabulate zero f h = refl
+all-tabulate (suc n) f h = rw (h 0, all-tabulate n (λ i. f (suc i)) (λ i. h (suc i)))
+
+all-append : (ls ks : List ℕ) → allLabels ls ≡ true → allLabels ks ≡ true → allLabels (ls ++ ks) ≡ true
+unfolding allLabels
+all-append [] ks h e = e
+all-append (l ∷ ls) ks h e = let b = both (leb l 1) (allLabels ls) h in rw (b .0, all-append ls ks (b .1) e)
+
+module _ (labels : Memory) (h : labelsInRange labels ≡ true) where
+  all-space : (space : ℕ) → allLabels (spaceOf labels space) ≡ true
+  unfolding labelsInRange spaceOf allLabels
+  all-space space =
+      let b = both (allLabels (labels .unique) && allLabels (labels .register)) (allLabels (labels .ram)) h in
+      let a = both (allLabels (labels .unique)) (allLabels (labels .register)) (b .0) in
+      either (λ (l : List ℕ). allLabels l ≡ true) (eqb space 2) _ _ (a .0)
+      (either (λ (l : List ℕ). allLabels l ≡ true) (eqb space 3) _ _ (a .1) (either (λ (l : List ℕ). allLabels l ≡ true) (eqb space 4) _ _ (b .1) refl))
+
+  all-label-bytes : (v : Varnode) → allLabels (bytesAt labels v) ≡ true
+  unfolding bytesAt part
+  all-label-bytes v = all-tabulate (v .size) (λ i. getD (spaceOf labels (v .space)) (v .offset + i) 0) (λ i. all-at (spaceOf labels (v .space)) (all-space (v .space)) (v .offset + i))
+
+  all-read : (settings : Settings) (vs : List Varnode) → allLabels (labelsOf settings labels vs) ≡ true
+  unfolding labelsOf ordered allLabels
+  all-read settings [] = refl
+  all-read settings (v ∷ vs) =
+      let bs : List ℕ = bytesAt labels v in
+      let f : ℕ → ℕ = λ i. getD bs (significance (bigEndian settings) (length bs) i) 0 in
+      all-append (tabulate (length bs) f) (labelsOf settings labels vs) (all-tabulate (length bs) f (λ i. all-at bs (all-label-bytes v) _)) (all-read settings vs)
+
+  entry-label : (ls : List ℕ) → allLabels ls ≡ true → (o : Origin) → leb (entryFrom labelFill ls o) 1 ≡ true
+  unfolding entryFrom labelFill
+  entry-label ls e (Origin.read k) = all-at ls e k
+  entry-label ls e Origin.zeros = refl
+  entry-label ls e (Origin.filled k) = all-at ls e k
+
+  all-written : (settings : Settings) (op : Operation) (size : ℕ) (vs : List Varnode) → allLabels (labelsWritten settings op size vs labels) ≡ true
+  unfolding labelsWritten moved
+  all-written settings op size vs =
+      either (λ (l : List ℕ). allLabels l ≡ true) (moves op) _ _
+      (all-tabulate size (λ i. entryFrom labelFill (labelsOf settings labels vs) (origin op (length (labelsOf settings labels vs)) (significance (bigEndian settings) size i)))
+      (λ i. entry-label (labelsOf settings labels vs) (all-read settings vs) _))
+      (all-flags size (secret labels vs))
 
 written-labels : (labels : Memory) (v : Varnode) (xs : List ℕ) → labelsInRange labels ≡ true → allLabels xs ≡ true → labelsInRange (written labels v xs) ≡ true
 unfolding written withSpace spaceOf labelsInRange
@@ -146,7 +200,7 @@ module _ (words : ℕ) (spaces : Lengths) (marks : Memory) where
 
   applied-kept : (program : Program) (k : Kind) (op : Operation) (at : Position) (labels m : Memory) (x : ℕ) {d : Decision} → Fits (at .room) d
       → Kept words spaces marks at labels m → KeptStep (applyDecision program k op at labels m x d)
-  unfolding applyDecision ended labelsWritten
+  unfolding applyDecision ended
   applied-kept program k op at labels m x stops h = halts h
   applied-kept program k op at labels m x (exited l s) h =
       halts (record { log = advanced-log at _ _ l (h .log); memory = h .memory; lengths = h .lengths; values = h .values })
@@ -155,7 +209,7 @@ module _ (words : ℕ) (spaces : Lengths) (marks : Memory) where
         log = advanced-log at _ _ l (h .log);
         memory = written-lengths m (target k op x) _ ∙ h .memory;
         lengths = written-lengths labels (target k op x) _ ∙ h .lengths;
-        values = λ q. written-labels labels (target k op x) _ (h .values q) (all-flags (target k op x .size) (secret labels (sources k op x)));
+        values = λ q. written-labels labels (target k op x) _ (h .values q) (all-written labels (h .values q) (program .settings) op _ _);
       })
 
   pub stepped-kept : (program : Program) (at : Position) (labels m : Memory) → Kept words spaces marks at labels m → KeptStep (stepped program at labels m)

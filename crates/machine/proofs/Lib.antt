@@ -2,6 +2,7 @@ pub mod Cases
 pub mod Ranges
 pub mod Refusals
 pub mod Pointwise
+pub mod Moves
 pub mod Secrecy
 pub mod Plain
 pub mod Noninterference
@@ -15,8 +16,9 @@ pub mod Order
 pub mod Limits
 pub mod Marked
 pub mod ByteOrder
-pub mod Moves
+pub mod Labels
 pub mod Conditions
 pub mod Divisions
+pub mod FinerLabels
 pub mod Wordsizes
 pub mod Pinned

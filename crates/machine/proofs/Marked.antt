@@ -14,8 +14,8 @@ use Rattle.operation.specs.Rules.{beyond, breaksRange, breaksSize, relativeTarg
 use Rattle.validation.specs.Verdict.{settingsInRange, lengthsInRange, anyBelow, anyPlace, sizeOrTarget, lowestRule, firstMalformed, refusalReport, malformed, wordsizesInRange}
 use Rattle.machine.specs.Program.{bigEndian}
 use Rattle.machine.specs.Memory.{lengthsOf, spaceOf, withSpace, bytesAt, written, valueAt, ordered, digitsAt}
-use Rattle.machine.specs.Effect.{operationAt, kindOf, sinks, tested, resolved, pointee, sources, target, moves, dropped, digitsOf, valuesOf, computed, bytesWritten}
-use Rattle.machine.specs.Effect.{anySecret, secret, labelsWritten}
+use Rattle.machine.specs.Effect.{operationAt, kindOf, sinks, tested, resolved, pointee, sources, target, moves, dropped, origin, entryFrom, moved, digitsOf, signFill, valuesOf, computed, bytesWritten}
+use Rattle.machine.specs.Effect.{anySecret, secret, labelsOf, labelFill, labelsWritten}
 use Rattle.machine.specs.Run.{endingOf, indexOf, goTo, checked, decided, advanced, ended, resolvedValue, applyDecision, executeAs, execute, stepped, continued, run}
 use Rattle.machine.specs.Calls.{refusal, logAfter, outcomeOf, starting, called, unlabelled, plainRun}
 use Rattle.machine.specs.Marked.{Marked}
@@ -26,8 +26,8 @@ unfolding xor sum tabulate digit part significance valueOf bytesOf signed wrap n
     wordAt headByte opcodeAt descriptorAt offsetAt describedBy varnodeAt spareAt isSize opcodes rowOf outputs inputs sizesOf hasPlace breaksHead describesVarnode breaksShape
     breaksShapeAt accesses branches jumps namesSpace isDestination breaksPlace lengthOf beyond breaksRange breaksSize relativeTarget targetOutside
     breaksTarget settingsInRange wordsizesInRange lengthsInRange anyBelow anyPlace sizeOrTarget lowestRule firstMalformed refusalReport malformed lengthsOf spaceOf
-    withSpace bytesAt written valueAt ordered digitsAt operationAt absent kindOf sinks pointee sources target moves dropped digitsOf valuesOf
-    computed bytesWritten anySecret secret labelsWritten endingOf indexOf goTo checked decided advanced ended resolvedValue resolved tested bigEndian applyDecision
+    withSpace bytesAt written valueAt ordered digitsAt operationAt absent kindOf sinks pointee sources target moves dropped origin entryFrom
+    moved digitsOf signFill valuesOf computed bytesWritten anySecret secret labelsOf labelFill labelsWritten endingOf indexOf goTo checked decided advanced ended resolvedValue resolved tested bigEndian applyDecision
     executeAs execute stepped continued run refusal logAfter outcomeOf starting called unlabelled plainRun
 marked = record {
   add-wraps = (refl, refl);

@@ -1,25 +1,47 @@
--- The bytes that a move writes.
-use Prim.Native.Nat.{ℕ, _+_, _-_, _*_, _/_, _%_, _^_, _<_}
-use native.Mathlib.Nat.{div-eq-of-lt, lt-of-lt-of-le, div-one, zero-add}
+-- What a move writes, byte by byte: the bytes of a number, and the labels that the exact conditions tell.
+use Prim.Native.Nat.{ℕ, _+_, _-_, _*_, _/_, _%_, _^_, _≤_, _<_}
+use native.Mathlib.Nat.{zero-add, div-one}
 use native.Mathlib.Omega.{arith}
 use mathlib.Core.Path.{_≡_, refl, sym, ap, _∙_}
 use mathlib.Core.Bool.{Bool, true, false, cond}
 use mathlib.Core.List.{List, [], _∷_, _++_, append-nil}
 use borrow.Author.Tests.{ltb-true, ltb-false}
 use lib.Dec.{ltb, eqb}
-use lib.ListN.{length, getD, List·getD-append}
-use lib.Pow.{shr-shr, high, low}
+use lib.ListN.{length, getD, List·getD-append, List·getD-eq-default}
 use lib.Seq.{getD-append-add}
-use Rattle.word.specs.Sum.{digit}
-use Rattle.word.specs.Word.{part, significance, valueOf, bytesOf}
-use Rattle.word.proofs.Sums.{tabulate-is, tabulate-past}
-use Rattle.word.proofs.Powers.{pow-bits, size-mono}
-use Rattle.word.proofs.Laws.{significance-lt, significance-twice, part-length, part-bytes, bytes-length, bytes-at, bytes-bytes, read-written, written-read}
+use Rattle.word.specs.Sum.{tabulate, digit}
+use Rattle.word.specs.Word.{significance, valueOf, bytesOf}
+use Rattle.word.proofs.Sums.{tabulate-is, tabulate-at, tabulate-past, tabulate-length}
+use Rattle.word.proofs.Laws.{significance-lt, significance-twice, part-length, part-bytes, bytes-length, bytes-at, written-read}
+use Rattle.word.proofs.Shifts.{bytes-mod, digit-past, digit-div, digit-low, digit-high}
+use Rattle.integer.specs.Operations.{intSext}
+use Rattle.integer.proofs.Extension.{sext-digit}
 use Rattle.operation.specs.declared.layout.Settings.{Settings}
 use Rattle.operation.specs.declared.layout.Varnode.{Varnode}
 use Rattle.machine.specs.Program.{bigEndian}
 use Rattle.machine.specs.Memory.{Memory, OfBytes, spaceOf, bytesAt, valueAt, ordered, digitsAt}
-use Rattle.machine.specs.Effect.{Operation, dropped, moves, digitsOf, bytesWritten}
+use Rattle.machine.specs.Effect.{Operation, Origin, dropped, moves, origin, entryFrom, moved, signFill, digitsOf, bytesWritten}
+
+-- ---- bytes by significance
+
+pub length-ordered : (big : Bool) (bs : List ℕ) → length (ordered big bs) ≡ length bs
+unfolding ordered
+length-ordered big bs = tabulate-length (length bs) _
+
+pub ordered-at : (big : Bool) (bs : List ℕ) (k : ℕ) → getD (ordered big bs) k 0 ≡ cond (ltb k (length bs)) (getD bs (significance big (length bs) k) 0) 0
+unfolding ordered
+ordered-at big bs k = by (ltb k (length bs)) refl
+  where
+    f : ℕ → ℕ
+    f i = getD bs (significance big (length bs) i) 0
+
+    by : (t : Bool) → ltb k (length bs) ≡ t → getD (tabulate (length bs) f) k 0 ≡ cond t (f k) 0
+    by true e = tabulate-at (length bs) f k (ltb-true k (length bs) e)
+    by false e = tabulate-past (length bs) f k (ltb-false k (length bs) e)
+
+pub bytes-count : (m : Memory) (v : Varnode) → length (bytesAt m v) ≡ v .size
+unfolding bytesAt
+bytes-count m v = part-length (spaceOf m (v .space)) (v .offset) (v .size)
 
 -- ordering the bytes of a number puts them in the other order
 ordered-back : (big : Bool) (n x : ℕ) → ordered big (bytesOf big n x) ≡ bytesOf false n x
@@ -29,135 +51,138 @@ ordered-back big n x =
     (tabulate-is n (λ i. getD (bytesOf big n x) (significance big n i) 0) (bytesOf false n x) (bytes-length false n x)
     (λ i h. bytes-at big n x (significance big n i) (significance-lt big n i h) ∙ ap (digit 256 x) (significance-twice big n i h) ∙ sym (bytes-at false n x i h)))
 
-ordered-out : (big : Bool) (n x : ℕ) → ordered big (bytesOf false n x) ≡ bytesOf big n x
-unfolding ordered significance
-ordered-out big n x =
-    rw (bytes-length false n x)
-    (tabulate-is n (λ i. getD (bytesOf false n x) (significance big n i) 0) (bytesOf big n x) (bytes-length big n x)
-    (λ i h. bytes-at false n x (significance big n i) (significance-lt big n i h) ∙ sym (bytes-at big n x i h)))
+-- a varnode's bytes by significance are those of the number that they make
+pub ordered-number : (big : Bool) (m : Memory) (v : Varnode) → OfBytes m → ordered big (bytesAt m v) ≡ bytesOf false (v .size) (valueOf big (bytesAt m v))
+unfolding bytesAt
+ordered-number big m v h =
+    ap (ordered big) (sym (written-read big (bytesAt m v) (part-bytes (spaceOf m (v .space)) (v .offset) (v .size) (h (v .space)))))
+    ∙ ordered-back big (length (bytesAt m v)) (valueOf big (bytesAt m v))
+    ∙ ap (λ (n : ℕ). bytesOf false n (valueOf big (bytesAt m v))) (bytes-count m v)
 
--- a varnode's digits are those of its value
 digits-of : (settings : Settings) (m : Memory) (v : Varnode) → OfBytes m → digitsAt settings m v ≡ bytesOf false (v .size) (valueAt settings m v)
-unfolding digitsAt valueAt bytesAt
+unfolding digitsAt valueAt
 digits-of settings m v h = by (eqb (v .space) 1)
   where
-    memory : ordered (bigEndian settings) (bytesAt m v) ≡ bytesOf false (v .size) (valueOf (bigEndian settings) (bytesAt m v))
-    memory =
-        let w = written-read (bigEndian settings) (bytesAt m v) (part-bytes (spaceOf m (v .space)) (v .offset) (v .size) (h (v .space))) in
-        let l : length (bytesAt m v) ≡ v .size = part-length (spaceOf m (v .space)) (v .offset) (v .size) in
-        ap (ordered (bigEndian settings)) (sym w)
-        ∙ ordered-back (bigEndian settings) (length (bytesAt m v)) (valueOf (bigEndian settings) (bytesAt m v))
-        ∙ ap (λ (n : ℕ). bytesOf false n (valueOf (bigEndian settings) (bytesAt m v))) l
-
     by : (t : Bool) → cond t (bytesOf false (v .size) (v .offset)) (ordered (bigEndian settings) (bytesAt m v))
         ≡ bytesOf false (v .size) (cond t (v .offset) (valueOf (bigEndian settings) (bytesAt m v)))
     by true = refl
-    by false = memory
+    by false = ordered-number (bigEndian settings) m v h
 
--- a number that fits has no more digits
-entry : (s x j : ℕ) → x < 256 ^ s → getD (bytesOf false s x) j 0 ≡ digit 256 x j
-unfolding significance bytesOf digit
+-- the bytes of a number that fits, and none above them
+pub entry : (s x j : ℕ) → x < 256 ^ s → getD (bytesOf false s x) j 0 ≡ digit 256 x j
+unfolding significance bytesOf
 entry s x j h = by (ltb j s) refl
   where
-    by : (t : Bool) → ltb j s ≡ t → getD (bytesOf false s x) j 0 ≡ x / 256 ^ j % 256
+    by : (t : Bool) → ltb j s ≡ t → getD (bytesOf false s x) j 0 ≡ digit 256 x j
     by true t = bytes-at false s x j (ltb-true j s t)
-    by false t =
-        tabulate-past s (λ k. digit 256 x k) j (ltb-false j s t)
-        ∙ sym (ap (λ (y : ℕ). y % 256) (div-eq-of-lt (lt-of-lt-of-le h (size-mono s j (ltb-false j s t)))))
+    by false t = tabulate-past s (λ k. digit 256 x k) j (ltb-false j s t) ∙ sym (digit-past s x j h (ltb-false j s t))
 
-div-div : (n k i : ℕ) → n / 256 ^ k / 256 ^ i ≡ n / 256 ^ (k + i)
-div-div n k i =
-    let e : 8 * k + 8 * i ≡ 8 * (k + i) = omega arith in
-    rw (pow-bits k, pow-bits i, pow-bits (k + i)) (shr-shr n (8 * k) (8 * i) ∙ ap (λ (j : ℕ). n / 2 ^ j) e)
+-- one list of entries after another
+pub joined-at : (low high : List ℕ) (k : ℕ) → getD (low ++ high) k 0 ≡ cond (ltb k (length low)) (getD low k 0) (getD high (k - length low) 0)
+joined-at low high k = by (ltb k (length low)) refl
+  where
+    by : (t : Bool) → ltb k (length low) ≡ t → getD (low ++ high) k 0 ≡ cond t (getD low k 0) (getD high (k - length low) 0)
+    by true e = List·getD-append low high 0 k (ltb-true k (length low) e)
+    by false e =
+        let l : k ≡ length low + (k - length low) = omega (arith, ltb-false k (length low) e) in
+        ap (λ (j : ℕ). getD (low ++ high) j 0) l ∙ getD-append-add low high (k - length low) 0
 
--- the digits from k on are those of the number divided by 256^k
-part-of : (s x k n : ℕ) → x < 256 ^ s → part (bytesOf false s x) k n ≡ bytesOf false n (x / 256 ^ k)
-unfolding part significance digit
-part-of s x k n h =
-    tabulate-is n (λ i. getD (bytesOf false s x) (k + i) 0) (bytesOf false n (x / 256 ^ k)) (bytes-length false n (x / 256 ^ k))
-    (λ i l. entry s x (k + i) h ∙ ap (λ (y : ℕ). y % 256) (sym (div-div x k i)) ∙ sym (bytes-at false n (x / 256 ^ k) i l))
+-- ---- what a move takes from some entries
 
--- n bytes tell a number but for a multiple of 256^n
-bytes-mod : (big : Bool) (n x : ℕ) → bytesOf big n x ≡ bytesOf big n (x % 256 ^ n)
-bytes-mod big n x =
-    let w = written-read big (bytesOf big n x) (bytes-bytes big n x) in
-    sym w ∙ ap (λ (k : ℕ). bytesOf big k (valueOf big (bytesOf big n x))) (bytes-length big n x) ∙ ap (bytesOf big n) (read-written big n x)
-
-one-source : (settings : Settings) (m : Memory) (v : Varnode) (k n : ℕ) → OfBytes m → valueAt settings m v < 256 ^ v .size
-    → ordered (bigEndian settings) (part (digitsOf settings m (v ∷ [])) k n) ≡ bytesOf (bigEndian settings) n (valueAt settings m v / 256 ^ k)
-unfolding digitsOf
-one-source settings m v k n b h =
-    ap (λ (ds : List ℕ). ordered (bigEndian settings) (part ds k n)) (append-nil (digitsAt settings m v) ∙ digits-of settings m v b)
-    ∙ ap (ordered (bigEndian settings)) (part-of (v .size) (valueAt settings m v) k n h)
-    ∙ ordered-out (bigEndian settings) n (valueAt settings m v / 256 ^ k)
-
--- ---- PIECE
-
-module _ (s t a b : ℕ) (ha : a < 256 ^ s) (hb : b < 256 ^ t) where
-  high-part : (a * 256 ^ t + b) / 256 ^ t ≡ a
-  high-part = let l : b < 2 ^ (8 * t) = rw (pow-bits t) at hb in rw (pow-bits t) (high a (8 * t) l)
-
-  low-part : (a * 256 ^ t + b) % 256 ^ t ≡ b
-  low-part = let l : b < 2 ^ (8 * t) = rw (pow-bits t) at hb in rw (pow-bits t) (low a (8 * t) l)
-
-  low-digit : (i : ℕ) → i < t → digit 256 b i ≡ digit 256 (a * 256 ^ t + b) i
-  unfolding significance
-  low-digit i h =
-      sym (bytes-at false t b i h)
-      ∙ ap (λ (l : List ℕ). getD l i 0) (sym (bytes-mod false t (a * 256 ^ t + b) ∙ ap (bytesOf false t) low-part))
-      ∙ bytes-at false t (a * 256 ^ t + b) i h
-
-  high-digit : (j : ℕ) → digit 256 a j ≡ digit 256 (a * 256 ^ t + b) (t + j)
-  unfolding digit
-  high-digit j = ap (λ (x : ℕ). x / 256 ^ j % 256) (sym high-part) ∙ ap (λ (x : ℕ). x % 256) (div-div (a * 256 ^ t + b) t j)
-
-  joined-entry : (i : ℕ) → getD (bytesOf false t b ++ bytesOf false s a) i 0 ≡ digit 256 (a * 256 ^ t + b) i
-  joined-entry i = by (ltb i t) refl
+module _ (op : Operation) (fill : ℕ → ℕ) (entries : List ℕ) (k : ℕ) where
+  -- all but INT_SEXT: the entry, or 0 above them
+  pub taken : eqb (op .opcode) 20 ≡ false → entryFrom fill entries (origin op (length entries) k) ≡ getD entries (dropped op + k) 0
+  unfolding origin entryFrom
+  taken e = rw e (by (ltb (dropped op + k) (length entries)) refl)
     where
-      by : (c : Bool) → ltb i t ≡ c → getD (bytesOf false t b ++ bytesOf false s a) i 0 ≡ digit 256 (a * 256 ^ t + b) i
-      by true c =
-          let h : i < t = ltb-true i t c in
-          List·getD-append (bytesOf false t b) (bytesOf false s a) 0 i (rw (bytes-length false t b) h) ∙ entry t b i hb ∙ low-digit i h
-      by false c =
-          let e : t + (i - t) ≡ i = omega (arith, ltb-false i t c) in
-          let l : length (bytesOf false t b) + (i - t) ≡ i = rw (bytes-length false t b) e in
-          ap (λ (k : ℕ). getD (bytesOf false t b ++ bytesOf false s a) k 0) (sym l)
-          ∙ getD-append-add (bytesOf false t b) (bytesOf false s a) (i - t) 0
-          ∙ entry s a (i - t) ha ∙ high-digit (i - t) ∙ ap (digit 256 (a * 256 ^ t + b)) e
+      by : (t : Bool) → ltb (dropped op + k) (length entries) ≡ t
+          → entryFrom fill entries (cond t (Origin.read (dropped op + k)) Origin.zeros) ≡ getD entries (dropped op + k) 0
+      by true q = refl
+      by false q = sym (List·getD-eq-default entries 0 (ltb-false (dropped op + k) (length entries) q))
 
-  joined : (n : ℕ) → part (bytesOf false t b ++ bytesOf false s a) 0 n ≡ bytesOf false n (a * 256 ^ t + b)
-  unfolding part significance
-  joined n =
-      tabulate-is n (λ i. getD (bytesOf false t b ++ bytesOf false s a) (0 + i) 0) (bytesOf false n (a * 256 ^ t + b)) (bytes-length false n (a * 256 ^ t + b))
-      (λ i l. ap (λ (k : ℕ). getD (bytesOf false t b ++ bytesOf false s a) k 0) (zero-add i) ∙ joined-entry i ∙ sym (bytes-at false n (a * 256 ^ t + b) i l))
+  -- INT_SEXT: the entry, or what the last one fills with
+  pub extended : op .opcode ≡ 20
+      → entryFrom fill entries (origin op (length entries) k) ≡ cond (ltb k (length entries)) (getD entries k 0) (fill (getD entries (length entries - 1) 0))
+  unfolding origin entryFrom dropped
+  extended e = rw (e, zero-add k) (by (ltb k (length entries)))
+    where
+      by : (t : Bool) → entryFrom fill entries (cond t (Origin.read k) (Origin.filled (length entries - 1)))
+          ≡ cond t (getD entries k 0) (fill (getD entries (length entries - 1) 0))
+      by true = refl
+      by false = refl
 
-two-sources : (settings : Settings) (m : Memory) (u v : Varnode) (n : ℕ) → OfBytes m → valueAt settings m u < 256 ^ u .size → valueAt settings m v < 256 ^ v .size
-    → ordered (bigEndian settings) (part (digitsOf settings m (v ∷ u ∷ [])) 0 n) ≡ bytesOf (bigEndian settings) n (valueAt settings m u * 256 ^ v .size + valueAt settings m v)
-unfolding digitsOf
-two-sources settings m u v n b hu hv =
-    ap (λ (ds : List ℕ). ordered (bigEndian settings) (part (digitsAt settings m v ++ ds) 0 n)) (append-nil (digitsAt settings m u))
-    ∙ ap (ordered (bigEndian settings)) (rw (digits-of settings m u b, digits-of settings m v b) (joined (u .size) (v .size) (valueAt settings m u) (valueAt settings m v) hu hv n))
-    ∙ ordered-out (bigEndian settings) n (valueAt settings m u * 256 ^ v .size + valueAt settings m v)
+-- ---- the bytes written are those of a number
 
--- a move from one varnode, which leaves out its k least significant bytes
-pub moved : (settings : Settings) (op : Operation) (m : Memory) (v : Varnode) (k n : ℕ) → moves op ≡ true → dropped op ≡ k → OfBytes m
-    → valueAt settings m v < 256 ^ v .size → bytesWritten settings op n (v ∷ []) m ≡ bytesOf (bigEndian settings) n (valueAt settings m v / 256 ^ k)
-unfolding bytesWritten
-moved settings op m v k n e d b h = rw (e, d) (one-source settings m v k n b h)
+pub moved-is : (big : Bool) (op : Operation) (n : ℕ) (fill : ℕ → ℕ) (entries : List ℕ) (f : ℕ → ℕ)
+    → ((k : ℕ) → k < n → entryFrom fill entries (origin op (length entries) k) ≡ f k) → moved big op n fill entries ≡ tabulate n (λ i. f (significance big n i))
+unfolding moved
+moved-is big op n fill entries f h =
+    tabulate-is n _ (tabulate n (λ i. f (significance big n i))) (tabulate-length n _)
+    (λ i l. h (significance big n i) (significance-lt big n i l) ∙ sym (tabulate-at n (λ j. f (significance big n j)) i l))
 
--- a move of a whole varnode
-pub moved-whole : (settings : Settings) (op : Operation) (m : Memory) (v : Varnode) (n : ℕ) → moves op ≡ true → dropped op ≡ 0 → OfBytes m
-    → valueAt settings m v < 256 ^ v .size → bytesWritten settings op n (v ∷ []) m ≡ bytesOf (bigEndian settings) n (valueAt settings m v)
-moved-whole settings op m v n e d b h = moved settings op m v 0 n e d b h ∙ ap (bytesOf (bigEndian settings) n) (div-one (valueAt settings m v))
+module _ (settings : Settings) (op : Operation) (m : Memory) (n x : ℕ) (vs : List Varnode) (e : moves op ≡ true) where
+  -- byte by byte
+  written-is : ((k : ℕ) → k < n → entryFrom signFill (digitsOf settings m vs) (origin op (length (digitsOf settings m vs)) k) ≡ digit 256 x k)
+      → bytesWritten settings op n vs m ≡ bytesOf (bigEndian settings) n x
+  unfolding bytesWritten bytesOf
+  written-is h = rw e (moved-is (bigEndian settings) op n signFill (digitsOf settings m vs) (digit 256 x) h)
 
--- SUBPIECE: n bytes are written of the number that is left
-pub moved-part : (settings : Settings) (op : Operation) (m : Memory) (v : Varnode) (k n : ℕ) → moves op ≡ true → dropped op ≡ k → OfBytes m
-    → valueAt settings m v < 256 ^ v .size → bytesWritten settings op n (v ∷ []) m ≡ bytesOf (bigEndian settings) n (valueAt settings m v / 256 ^ k % 256 ^ n)
-moved-part settings op m v k n e d b h = moved settings op m v k n e d b h ∙ bytes-mod (bigEndian settings) n (valueAt settings m v / 256 ^ k)
+module _ (settings : Settings) (op : Operation) (m : Memory) (n : ℕ) (v : Varnode) (e : moves op ≡ true) (b : OfBytes m)
+    (h : valueAt settings m v < 256 ^ v .size) where
+  one-source : digitsOf settings m (v ∷ []) ≡ bytesOf false (v .size) (valueAt settings m v)
+  unfolding digitsOf
+  one-source = append-nil (digitsAt settings m v) ∙ digits-of settings m v b
+
+  -- a move from one varnode, which leaves out its k least significant bytes
+  moved-from : (k : ℕ) → eqb (op .opcode) 20 ≡ false → dropped op ≡ k
+      → bytesWritten settings op n (v ∷ []) m ≡ bytesOf (bigEndian settings) n (valueAt settings m v / 256 ^ k)
+  moved-from k n20 d =
+      written-is settings op m n (valueAt settings m v / 256 ^ k) (v ∷ []) e
+      (λ i l. taken op signFill (digitsOf settings m (v ∷ [])) i n20
+      ∙ rw (d, one-source) (entry (v .size) (valueAt settings m v) (k + i) h ∙ sym (digit-div (valueAt settings m v) k i)))
+
+  -- a move of a whole varnode
+  pub moved-whole : eqb (op .opcode) 20 ≡ false → dropped op ≡ 0 → bytesWritten settings op n (v ∷ []) m ≡ bytesOf (bigEndian settings) n (valueAt settings m v)
+  moved-whole n20 d = moved-from 0 n20 d ∙ ap (bytesOf (bigEndian settings) n) (div-one (valueAt settings m v))
+
+  -- SUBPIECE: n bytes are written of the number that is left
+  pub moved-part : (k : ℕ) → eqb (op .opcode) 20 ≡ false → dropped op ≡ k
+      → bytesWritten settings op n (v ∷ []) m ≡ bytesOf (bigEndian settings) n (valueAt settings m v / 256 ^ k % 256 ^ n)
+  moved-part k n20 d = moved-from k n20 d ∙ bytes-mod (bigEndian settings) n (valueAt settings m v / 256 ^ k)
+
+  -- INT_SEXT
+  pub moved-extended : op .opcode ≡ 20 → 1 ≤ v .size → v .size < n
+      → bytesWritten settings op n (v ∷ []) m ≡ bytesOf (bigEndian settings) n (intSext n (v .size) (valueAt settings m v))
+  unfolding signFill
+  moved-extended e20 some larger =
+      written-is settings op m n (intSext n (v .size) (valueAt settings m v)) (v ∷ []) e
+      (λ k l. extended op signFill (digitsOf settings m (v ∷ [])) k e20
+      ∙ rw (one-source, bytes-length, entry (v .size) (valueAt settings m v) k h, entry (v .size) (valueAt settings m v) (v .size - 1) h)
+      (sym (sext-digit n (v .size) (valueAt settings m v) some larger h k l)))
 
 -- PIECE: u above v
-pub moved-both : (settings : Settings) (op : Operation) (m : Memory) (u v : Varnode) (n : ℕ) → moves op ≡ true → dropped op ≡ 0 → OfBytes m
-    → valueAt settings m u < 256 ^ u .size → valueAt settings m v < 256 ^ v .size
-    → bytesWritten settings op n (v ∷ u ∷ []) m ≡ bytesOf (bigEndian settings) n (valueAt settings m u * 256 ^ v .size + valueAt settings m v)
-unfolding bytesWritten
-moved-both settings op m u v n e d b hu hv = rw (e, d) (two-sources settings m u v n b hu hv)
+module _ (settings : Settings) (op : Operation) (m : Memory) (u v : Varnode) (b : OfBytes m) where
+  abbrev x : ℕ
+  x = valueAt settings m u
+
+  abbrev y : ℕ
+  y = valueAt settings m v
+
+  two-sources : digitsOf settings m (v ∷ u ∷ []) ≡ bytesOf false (v .size) y ++ bytesOf false (u .size) x
+  unfolding digitsOf
+  two-sources =
+      ap (λ (ds : List ℕ). digitsAt settings m v ++ ds) (append-nil (digitsAt settings m u)) ∙ rw (digits-of settings m u b, digits-of settings m v b) refl
+
+  pub moved-both : (n : ℕ) → moves op ≡ true → eqb (op .opcode) 20 ≡ false → dropped op ≡ 0 → x < 256 ^ u .size → y < 256 ^ v .size
+      → bytesWritten settings op n (v ∷ u ∷ []) m ≡ bytesOf (bigEndian settings) n (x * 256 ^ v .size + y)
+  moved-both n e n20 d hu hv =
+      written-is settings op m n (x * 256 ^ v .size + y) (v ∷ u ∷ []) e
+      (λ k l. taken op signFill (digitsOf settings m (v ∷ u ∷ [])) k n20
+      ∙ rw (d, zero-add k, two-sources) (joined-at (bytesOf false (v .size) y) (bytesOf false (u .size) x) k ∙ rw bytes-length (by k (ltb k (v .size)) refl)))
+    where
+      by : (k : ℕ) (t : Bool) → ltb k (v .size) ≡ t
+          → cond t (getD (bytesOf false (v .size) y) k 0) (getD (bytesOf false (u .size) x) (k - v .size) 0) ≡ digit 256 (x * 256 ^ v .size + y) k
+      by k true q = entry (v .size) y k hv ∙ sym (digit-low (v .size) x y hv k (ltb-true k (v .size) q))
+      by k false q =
+          let l : v .size + (k - v .size) ≡ k = omega (arith, ltb-false k (v .size) q) in
+          entry (u .size) x (k - v .size) hu ∙ sym (digit-high (v .size) x y hv (k - v .size)) ∙ ap (digit 256 (x * 256 ^ v .size + y)) l

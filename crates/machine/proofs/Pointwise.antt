@@ -3,14 +3,15 @@
 use Prim.Native.Nat.{ℕ, zero, suc, _+_, _<_}
 use native.Mathlib.Omega.{arith}
 use mathlib.Core.Path.{_≡_, refl, ap}
-use mathlib.Core.List.{List, [], _∷_}
+use mathlib.Core.Bool.{Bool}
+use mathlib.Core.List.{List, [], _∷_, _++_}
 use lib.ListN.{length, getD, set}
 use lib.Seq.{sets}
 use lib.Dec.{eqb}
 use Rattle.word.specs.Sum.{tabulate}
 use Rattle.word.specs.Word.{part}
 use Rattle.operation.specs.declared.layout.Varnode.{Varnode}
-use Rattle.machine.specs.Memory.{Memory, lengthsOf, spaceOf, withSpace, bytesAt, written}
+use Rattle.machine.specs.Memory.{Memory, lengthsOf, spaceOf, withSpace, bytesAt, written, ordered}
 use Rattle.machine.proofs.Cases.{either₃}
 
 -- Three lists of one length, with R at each place.
@@ -28,6 +29,10 @@ module _ {R : ℕ → ℕ → ℕ → Type 0} where
   each-length Each.empty = refl
   each-length (Each.entry e r) = ap suc (each-length r)
 
+  pub each-label-length : {ls a b : List ℕ} → Each R ls a b → length ls ≡ length a
+  each-label-length Each.empty = refl
+  each-label-length (Each.entry e r) = ap suc (each-label-length r)
+
   pub each-at : R 0 0 0 → {ls a b : List ℕ} → Each R ls a b → (i : ℕ) → R (getD ls i 0) (getD a i 0) (getD b i 0)
   each-at z Each.empty i = z
   each-at z (Each.entry e r) zero = e
@@ -43,10 +48,19 @@ module _ {R : ℕ → ℕ → ℕ → Type 0} where
   each-from (l ∷ ls) (x ∷ a) (y ∷ b) p q h =
       Each.entry (h 0 (omega arith)) (each-from ls a b (omega arith) (omega arith) (λ i k. h (suc i) (omega arith)))
 
-  each-tabulate : (n : ℕ) (f g h : ℕ → ℕ) → ((i : ℕ) → R (f i) (g i) (h i)) → Each R (tabulate n f) (tabulate n g) (tabulate n h)
+  pub each-tabulate : (n : ℕ) (f g h : ℕ → ℕ) → ((i : ℕ) → R (f i) (g i) (h i)) → Each R (tabulate n f) (tabulate n g) (tabulate n h)
   unfolding tabulate
   each-tabulate zero f g h r = Each.empty
   each-tabulate (suc n) f g h r = Each.entry (r 0) (each-tabulate n _ _ _ (λ i. r (suc i)))
+
+  pub each-append : {ls a b xs us ws : List ℕ} → Each R ls a b → Each R xs us ws → Each R (ls ++ xs) (a ++ us) (b ++ ws)
+  each-append Each.empty q = q
+  each-append (Each.entry e r) q = Each.entry e (each-append r q)
+
+  -- by significance
+  pub each-ordered : R 0 0 0 → (big : Bool) {ls a b : List ℕ} → Each R ls a b → Each R (ordered big ls) (ordered big a) (ordered big b)
+  unfolding ordered
+  each-ordered z big r = rw (each-label-length r, each-length r) (each-tabulate _ _ _ _ (λ i. each-at z r _))
 
   each-part : R 0 0 0 → {ls a b : List ℕ} → Each R ls a b → (at n : ℕ) → Each R (part ls at n) (part a at n) (part b at n)
   unfolding part

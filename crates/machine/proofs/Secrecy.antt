@@ -2,15 +2,14 @@
 use Prim.Native.Nat.{ℕ, zero, suc}
 use native.Mathlib.Omega.{arith}
 use mathlib.Core.Path.{_≡_, refl, sym, ap, ap₂, _∙_}
-use mathlib.Core.Bool.{Bool, true, false, not}
+use mathlib.Core.Bool.{Bool, true, false, cond, not}
 use mathlib.Core.List.{List, [], _∷_}
 use borrow.Author.Tests.{eqb-true, not-false}
 use lib.ListN.{length, replicate}
 use lib.Dec.{ltb, eqb}
 use Rattle.word.specs.Sum.{tabulate}
-use Rattle.word.specs.Word.{part}
-use Rattle.word.proofs.Sums.{tabulate-length}
-use Rattle.word.proofs.Laws.{part-length, bytes-length}
+use Rattle.word.specs.Word.{part, bytesOf}
+use Rattle.word.proofs.Laws.{bytes-length}
 use Rattle.integer.specs.Operations.{flag}
 use Rattle.integer.proofs.Booleans.{neither}
 use Rattle.operation.specs.declared.layout.Settings.{Settings}
@@ -18,10 +17,12 @@ use Rattle.operation.specs.declared.layout.Varnode.{Varnode}
 use Rattle.operation.specs.Layout.{operationCount, absent}
 use Rattle.machine.specs.Program.{Program, bigEndian}
 use Rattle.machine.specs.Memory.{Memory, bytesAt, valueAt, ordered, digitsAt}
-use Rattle.machine.specs.Effect.{Operation, Kind, operationAt, sinks, tested, resolved, moves, dropped, digitsOf, valuesOf, computed, bytesWritten, anySecret, secret, labelsWritten}
+use Rattle.machine.specs.Effect.{Operation, Kind, operationAt, sinks, tested, resolved, moves, Origin, entryFrom, moved, signFill, digitsOf, valuesOf, computed, bytesWritten}
+use Rattle.machine.specs.Effect.{anySecret, secret, labelsOf, labelFill, labelsWritten}
 use Rattle.machine.specs.Run.{Decision, Position, Ended, Stepped, decided, checked, ended, resolvedValue, applyDecision, executeAs, execute, stepped, continued, run}
-use Rattle.machine.proofs.Pointwise.{Each, Spaces, each-length, spaces-space, spaces-at, spaces-written}
-use Rattle.machine.proofs.Cases.{either, either₂}
+use Rattle.machine.proofs.Pointwise.{Each, Spaces, each-length, each-label-length, each-at, each-tabulate, each-append, each-ordered, spaces-space, spaces-at, spaces-written}
+use Rattle.machine.proofs.Cases.{either₂, either₃}
+use Rattle.machine.proofs.Moves.{length-ordered, bytes-count}
 
 -- Under the label 0 (public) the two bytes are the same.
 abbrev pub Public : (label first second : ℕ) → Type 0
@@ -44,7 +45,7 @@ public-same (Each.entry {l} {a} {b} {ls} {as′} {bs} e r) h =
     let n = neither (not (eqb l 0)) (anySecret ls) h in
     ap₂ _∷_ (e (eqb-true l 0 (not-false (eqb l 0) (n .0)))) (public-same r (n .1))
 
-flag-zero : (t : Bool) → flag t ≡ 0 → t ≡ false
+pub flag-zero : (t : Bool) → flag t ≡ 0 → t ≡ false
 unfolding flag
 flag-zero true h = absurd (omega arith)
 flag-zero false h = refl
@@ -59,9 +60,12 @@ whole t (x ∷ a) (y ∷ b) n h =
     let rest : t ≡ false → a ≡ b = λ z. cc (h z) in
     Each.entry first (whole t a b (omega arith) rest)
 
-length-ordered : (big : Bool) (bs : List ℕ) → length (ordered big bs) ≡ length bs
-unfolding ordered
-length-ordered big bs = tabulate-length (length bs) _
+-- The same bytes, whatever their labels.
+same : (ls a : List ℕ) → length ls ≡ length a → Each Public ls a a
+same [] [] n = Each.empty
+same [] (x ∷ a) n = absurd (omega arith)
+same (l ∷ ls) [] n = absurd (omega arith)
+same (l ∷ ls) (x ∷ a) n = Each.entry (λ e. refl) (same ls a (omega arith))
 
 absent-bytes : (labels : Memory) → anySecret (bytesAt labels absent) ≡ false
 unfolding anySecret bytesAt absent part tabulate
@@ -81,23 +85,41 @@ tested-public labels Kind.piece op h = absent-bytes labels
 tested-public labels Kind.subpiece op h = absent-bytes labels
 tested-public labels Kind.compute op h = absent-bytes labels
 
-length-written : (settings : Settings) (op : Operation) (n : ℕ) (vs : List Varnode) (m : Memory) → length (bytesWritten settings op n vs m) ≡ n
-unfolding bytesWritten
-length-written settings op n vs m =
-    either (λ (l : List ℕ). length l ≡ n) (moves op) _ _
-    (length-ordered (bigEndian settings) _ ∙ part-length (digitsOf settings m vs) (dropped op) n)
-    (bytes-length (bigEndian settings) n (computed op (valuesOf settings m vs)))
+-- ---- moved bytes, with their labels
+
+entry-view : {ls a b : List ℕ} → Each Public ls a b → (o : Origin) → Public (entryFrom labelFill ls o) (entryFrom signFill a o) (entryFrom signFill b o)
+unfolding entryFrom labelFill
+entry-view r (Origin.read k) = each-at (λ e. refl) r k
+entry-view r Origin.zeros = λ e. refl
+entry-view r (Origin.filled k) = λ e. ap signFill (each-at (λ z. refl) r k e)
+
+moved-view : (big : Bool) (op : Operation) (size : ℕ) {ls a b : List ℕ} → Each Public ls a b
+    → Each Public (moved big op size labelFill ls) (moved big op size signFill a) (moved big op size signFill b)
+unfolding moved
+moved-view big op size r = rw (each-label-length r, each-length r) (each-tabulate size _ _ _ (λ i. entry-view r _))
 
 module _ {labels m n : Memory} (r : Spaces Public labels m n) where
   public-bytes : (v : Varnode) → anySecret (bytesAt labels v) ≡ false → bytesAt m v ≡ bytesAt n v
   public-bytes v h = public-same (spaces-at (λ e. refl) r v) h
 
-  public-digits : (settings : Settings) (vs : List Varnode) → secret labels vs ≡ false → digitsOf settings m vs ≡ digitsOf settings n vs
-  unfolding digitsOf digitsAt secret
-  public-digits settings [] h = refl
-  public-digits settings (v ∷ vs) h =
-      let e = neither (anySecret (bytesAt labels v)) (secret labels vs) h in
-      rw (public-bytes v (e .0), public-digits settings vs (e .1))
+  digits-view : (settings : Settings) (v : Varnode) → Each Public (ordered (bigEndian settings) (bytesAt labels v)) (digitsAt settings m v) (digitsAt settings n v)
+  unfolding digitsAt
+  digits-view settings v = by (eqb (v .space) 1)
+    where
+      big : Bool
+      big = bigEndian settings
+
+      number : List ℕ
+      number = bytesOf false (v .size) (v .offset)
+
+      by : (t : Bool) → Each Public (ordered big (bytesAt labels v)) (cond t number (ordered big (bytesAt m v))) (cond t number (ordered big (bytesAt n v)))
+      by true = same _ _ (length-ordered big (bytesAt labels v) ∙ bytes-count labels v ∙ sym (bytes-length false (v .size) (v .offset)))
+      by false = each-ordered (λ e. refl) big (spaces-at (λ e. refl) r v)
+
+  all-digits-view : (settings : Settings) (vs : List Varnode) → Each Public (labelsOf settings labels vs) (digitsOf settings m vs) (digitsOf settings n vs)
+  unfolding digitsOf labelsOf
+  all-digits-view settings [] = Each.empty
+  all-digits-view settings (v ∷ vs) = each-append (digits-view settings v) (all-digits-view settings vs)
 
   public-value : (settings : Settings) (v : Varnode) → anySecret (bytesAt labels v) ≡ false → valueAt settings m v ≡ valueAt settings n v
   unfolding valueAt
@@ -116,19 +138,20 @@ module _ {labels m n : Memory} (r : Spaces Public labels m n) where
 
   -- ---- one operation
 
-  public-written : (settings : Settings) (op : Operation) (size : ℕ) (vs : List Varnode) → secret labels vs ≡ false
-      → bytesWritten settings op size vs m ≡ bytesWritten settings op size vs n
-  unfolding bytesWritten
-  public-written settings op size vs h = rw (public-values settings vs h, public-digits settings vs h)
+  computed-view : (settings : Settings) (op : Operation) (size : ℕ) (vs : List Varnode)
+      → Each Public (replicate size (flag (secret labels vs))) (bytesOf (bigEndian settings) size (computed op (valuesOf settings m vs)))
+      (bytesOf (bigEndian settings) size (computed op (valuesOf settings n vs)))
+  computed-view settings op size vs =
+      let l = bytes-length (bigEndian settings) size (computed op (valuesOf settings m vs)) in
+      let w = whole (secret labels vs) (bytesOf (bigEndian settings) size (computed op (valuesOf settings m vs))) (bytesOf (bigEndian settings) size (computed op (valuesOf settings n vs)))
+      (l ∙ sym (bytes-length (bigEndian settings) size (computed op (valuesOf settings n vs)))) (λ h. rw (public-values settings vs h)) in
+      rw l at w
 
   written-view : (settings : Settings) (op : Operation) (size : ℕ) (vs : List Varnode)
-      → Each Public (labelsWritten size vs labels) (bytesWritten settings op size vs m) (bytesWritten settings op size vs n)
-  unfolding labelsWritten
+      → Each Public (labelsWritten settings op size vs labels) (bytesWritten settings op size vs m) (bytesWritten settings op size vs n)
+  unfolding labelsWritten bytesWritten
   written-view settings op size vs =
-      let l = length-written settings op size vs m in
-      let w = whole (secret labels vs) (bytesWritten settings op size vs m) (bytesWritten settings op size vs n)
-      (l ∙ sym (length-written settings op size vs n)) (public-written settings op size vs) in
-      rw l at w
+      either₃ (Each Public) (moves op) _ _ _ _ _ _ (moved-view (bigEndian settings) op size (all-digits-view settings vs)) (computed-view settings op size vs)
 
 pub data SameSteps : Stepped → Stepped → Type 0 where
   halts : {r q : Ended} → SameView r q → SameSteps (Stepped.halted r) (Stepped.halted q)

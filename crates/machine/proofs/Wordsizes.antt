@@ -20,8 +20,8 @@ use Rattle.validation.specs.Verdict.{wordsizesInRange, settingsInRange, lengths
 use Rattle.validation.proofs.WellFormed.{verdict-zero}
 use Rattle.machine.specs.Program.{Program, bigEndian}
 use Rattle.machine.specs.Memory.{Memory, OfBytes, lengthsOf, spaceOf, withSpace, bytesAt, written, valueAt, ordered, digitsAt}
-use Rattle.machine.specs.Effect.{Operation, operationAt, kindOf, sinks, tested, byteOffset, resolved, pointee, sources, target, moves, dropped, digitsOf, valuesOf, computed}
-use Rattle.machine.specs.Effect.{bytesWritten, anySecret, secret, labelsWritten}
+use Rattle.machine.specs.Effect.{Operation, operationAt, kindOf, sinks, tested, byteOffset, resolved, pointee, sources, target, moves, dropped, origin, entryFrom, moved, digitsOf, signFill, valuesOf, computed}
+use Rattle.machine.specs.Effect.{bytesWritten, anySecret, secret, labelsOf, labelFill, labelsWritten}
 use Rattle.machine.specs.Run.{endingOf, logWord, logging, access, checked, decided, Position, Stepped, advanced, ended, resolvedValue, applyDecision, executeAs, execute, stepped, continued, run}
 use Rattle.machine.specs.Calls.{sameLengths, allLabels, labelsInRange, refusal, logAfter, outcomeOf, starting, called, unlabelled, plainRun, labelledRun}
 use Rattle.machine.specs.Conditions.{exceedsSpace, lowPart, logWordOf, operand1, exactStep, exactStepWithin, Words}
@@ -125,8 +125,8 @@ unfolding xor sum tabulate digit part significance valueOf bytesOf flag member d
     wordAt headByte opcodeAt descriptorAt offsetAt describedBy varnodeAt spareAt isSize opcodes rowOf outputs inputs sizesOf hasPlace breaksHead describesVarnode breaksShape
     breaksShapeAt accesses branches jumps namesSpace isDestination breaksPlace lengthOf beyond breaksRange breaksSize relativeTarget targetOutside
     breaksTarget settingsInRange wordsizesInRange wordsizeOf lengthsInRange anyBelow anyPlace sizeOrTarget lowestRule firstMalformed refusalReport malformed lengthsOf spaceOf
-    withSpace bytesAt written valueAt ordered digitsAt operationAt absent kindOf sinks tested byteOffset resolved pointee sources target moves dropped digitsOf valuesOf
-    computed bytesWritten anySecret secret labelsWritten endingOf logWord logging access checked decided advanced ended resolvedValue bigEndian applyDecision
+    withSpace bytesAt written valueAt ordered digitsAt operationAt absent kindOf sinks tested byteOffset resolved pointee sources target moves dropped origin entryFrom
+    moved digitsOf signFill valuesOf computed bytesWritten anySecret secret labelsOf labelFill labelsWritten endingOf logWord logging access checked decided advanced ended resolvedValue bigEndian applyDecision
     executeAs execute stepped continued run sameLengths allLabels labelsInRange refusal logAfter outcomeOf starting called unlabelled plainRun labelledRun
 known-answers = record {
   load-unique = refl;

@@ -6,9 +6,10 @@ use Prim.Native.Nat.{ℕ, suc, _+_, _*_, _-_, _%_, _^_, _<_}
 use mathlib.Core.Bool.{Bool, false, cond, not, _&&_, _||_}
 use mathlib.Core.List.{List, [], _∷_}
 use mathlib.Core.Path.{_≡_}
-use lib.Dec.{eqb, leb}
-use lib.ListN.{length, getD, replicate}
-use Rattle.word.specs.Word.{bytesOf}
+use lib.Dec.{eqb, leb, ltb}
+use lib.ListN.{length, getD}
+use Rattle.word.specs.Sum.{tabulate}
+use Rattle.word.specs.Word.{significance, bytesOf}
 use Rattle.integer.specs.Operations.{flag}
 use Rattle.arithmetic.specs.Opcodes.{member}
 use Rattle.arithmetic.specs.Result.{result}
@@ -92,13 +93,49 @@ nextIndex op i b = cond (branchTaken op b && eqb (op .input0 .space) 1) ((i + op
 unfoldable pub destinationBytes : Operation → (b : ℕ) → Varnode
 destinationBytes op b = cond (eqb (op .opcode) 3) (pointee op b (op .input2 .size)) (op .output)
 
--- All bytes of an output become secret if any byte of any varnode read, or any byte loaded, is secret; else public. STORE makes all its
--- target bytes secret if any byte of input2 is secret, else public.
+-- ---- the labels written, byte by byte, by the number b that input1 stands for
+
+-- The label of byte k of a varnode, counted from the least significant on. Constants are public, and so is zero fill above the top byte.
+unfoldable pub labelOf : (big : Bool) → (labels : Memory) → Varnode → (k : ℕ) → ℕ
+labelOf big labels v k =
+    cond (eqb (v .space) 1) 0 (cond (ltb k (v .size)) (getD (bytesAt labels v) (significance big (v .size) k) 0) 0)
+
+-- 10 PIECE: input1 is the low part, input0 the high part.
+unfoldable pub labelJoined : (big : Bool) → (labels : Memory) → Operation → (k : ℕ) → ℕ
+labelJoined big labels op k =
+    cond (ltb k (op .input1 .size)) (labelOf big labels (op .input1) k) (labelOf big labels (op .input0) (k - op .input1 .size))
+
+-- 20 INT_SEXT: its fill takes the label of input0's top byte.
+unfoldable pub labelExtended : (big : Bool) → (labels : Memory) → Operation → (k : ℕ) → ℕ
+labelExtended big labels op k = labelOf big labels (op .input0) (cond (ltb k (op .input0 .size)) k (op .input0 .size - 1))
+
+-- For COPY, LOAD and STORE the label goes with each byte. For PIECE, SUBPIECE, INT_ZEXT and INT_SEXT it goes with the byte by
+-- significance: byte k of SUBPIECE 11 is byte k of input0 without its input1 low bytes; that of COPY 1 and INT_ZEXT 19 is byte k of input0.
+unfoldable pub labelMoved : (big : Bool) → (labels : Memory) → Operation → (b k : ℕ) → ℕ
+labelMoved big labels op b k =
+    cond (eqb (op .opcode) 2) (labelOf big labels (pointee op b (op .output .size)) k)
+    (cond (eqb (op .opcode) 3) (labelOf big labels (op .input2) k)
+    (cond (eqb (op .opcode) 10) (labelJoined big labels op k)
+    (cond (eqb (op .opcode) 11) (labelOf big labels (op .input0) (op .input1 .offset + k))
+    (cond (eqb (op .opcode) 20) (labelExtended big labels op k)
+    (labelOf big labels (op .input0) k)))))
+
+-- The base's rule, which all else keeps: all bytes of an output become secret if any byte of any varnode read, or any byte loaded, is
+-- secret; else public. STORE makes all its target bytes secret if any byte of input2 is secret, else public.
 unfoldable pub becomesSecret : (labels : Memory) → Operation → (b : ℕ) → Bool
 becomesSecret labels op b =
     cond (eqb (op .opcode) 3) (hasSecret labels (op .input2))
     (hasSecret labels (op .input0) || hasSecret labels (op .input1)
     || (eqb (op .opcode) 2 && hasSecret labels (pointee op b (op .output .size))))
+
+-- The label of byte k of what is written to.
+unfoldable pub labelWritten : (big : Bool) → (labels : Memory) → Operation → (b k : ℕ) → ℕ
+labelWritten big labels op b k =
+    cond (member (op .opcode) (1 ∷ 2 ∷ 3 ∷ 10 ∷ 11 ∷ 19 ∷ 20 ∷ [])) (labelMoved big labels op b k) (flag (becomesSecret labels op b))
+
+-- The labels of `size` bytes that are written to, in memory order.
+unfoldable pub labelsTold : (big : Bool) → (labels : Memory) → Operation → (b size : ℕ) → List ℕ
+labelsTold big labels op b size = tabulate size (λ i. labelWritten big labels op b (significance big size i))
 
 -- ---- the value written, by the value a of input0 and the number b that input1 stands for
 
@@ -131,15 +168,16 @@ exactStepWith program op a b at labels marked m =
     (written m (destinationBytes op b) (bytesOf (bigEndian (program .settings)) (destinationBytes op b .size) (valueWritten program m op a b)))))))
 
 -- The labels after an operation that goes on.
-unfoldable pub labelsAfter : (labels : Memory) → Operation → (b : ℕ) → Memory
-labelsAfter labels op b = written labels (destinationBytes op b) (replicate (destinationBytes op b .size) (flag (becomesSecret labels op b)))
+unfoldable pub labelsAfter : (big : Bool) → (labels : Memory) → Operation → (b : ℕ) → Memory
+labelsAfter big labels op b = written labels (destinationBytes op b) (labelsTold big labels op b (destinationBytes op b .size))
 
 -- At each operation, in order: LEAK; and the rest.
 unfoldable pub exactStep : Program → Operation → Position → (labels memory : Memory) → Stepped
 exactStep program op at labels m =
     let a : ℕ = valueAt (program .settings) m (op .input0) in
     let b : ℕ = operand1 program m op in
-    cond (leaks labels op) (Stepped.halted (ended 31 0 at labels m)) (exactStepWith program op a b at labels (labelsAfter labels op b) m)
+    cond (leaks labels op) (Stepped.halted (ended 31 0 at labels m))
+    (exactStepWith program op a b at labels (labelsAfter (bigEndian (program .settings)) labels op b) m)
 
 -- At n, END; count equals budget, BUDGET; `budget` is what is left of it.
 unfoldable pub exactStepWithin : Program → (budget : ℕ) → Position → (labels memory : Memory) → Stepped

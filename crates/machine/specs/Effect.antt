@@ -1,10 +1,11 @@
 -- What each operation reads, writes and must find public.
-use Prim.Native.Nat.{ℕ, _*_}
+use Prim.Native.Nat.{ℕ, _+_, _*_, _-_}
 use mathlib.Core.Bool.{Bool, false, cond, _||_, not}
 use mathlib.Core.List.{List, [], _∷_, _++_}
-use lib.Dec.{eqb}
-use lib.ListN.{getD, replicate}
-use Rattle.word.specs.Word.{part, bytesOf}
+use lib.Dec.{eqb, ltb}
+use lib.ListN.{length, getD, replicate}
+use Rattle.word.specs.Sum.{tabulate}
+use Rattle.word.specs.Word.{significance, bytesOf}
 use Rattle.integer.specs.Operations.{flag}
 use Rattle.arithmetic.specs.Opcodes.{member}
 use Rattle.arithmetic.specs.Operands.{divides}
@@ -37,8 +38,8 @@ operationAt list i =
       input2 = varnodeAt list i 3;
     }
 
--- Operations by what they do. `copy` is COPY and INT_ZEXT, `branch` BRANCH and CALL, `jump` BRANCHIND, CALLIND and RETURN, `divide`
--- the divisions and remainders, `compute` all others.
+-- Operations by what they do. `copy` is COPY, INT_ZEXT and INT_SEXT, `branch` BRANCH and CALL, `jump` BRANCHIND, CALLIND and RETURN,
+-- `divide` the divisions and remainders, `compute` all others.
 pub data Kind : Type 0 where
   copy load store branch cbranch jump piece subpiece divide compute : Kind
 
@@ -54,7 +55,8 @@ kindOf opcode =
     (cond (eqb opcode 10) piece
     (cond (eqb opcode 11) subpiece
     (cond (eqb opcode 19) copy
-    (cond (divides opcode) divide compute)))))))))
+    (cond (eqb opcode 20) copy
+    (cond (divides opcode) divide compute))))))))))
 
 -- ---- what must be public, since a secret byte there is LEAK
 
@@ -140,20 +142,49 @@ target subpiece op offset = op .output
 target divide op offset = op .output
 target compute op offset = op .output
 
--- ---- the bytes written
+-- ---- where each byte written comes from
 
--- COPY, LOAD, STORE, PIECE, SUBPIECE, INT_ZEXT: the bytes written are bytes read, moved by significance; else those of a number.
+-- COPY, LOAD, STORE, PIECE, SUBPIECE, INT_ZEXT, INT_SEXT: the bytes written are bytes read, moved by significance, or fill above them; all
+-- others write the bytes of a number.
 unfoldable pub moves : Operation → Bool
-moves op = member (op .opcode) (1 ∷ 2 ∷ 3 ∷ 10 ∷ 11 ∷ 19 ∷ [])
+moves op = member (op .opcode) (1 ∷ 2 ∷ 3 ∷ 10 ∷ 11 ∷ 19 ∷ 20 ∷ [])
 
 -- 11 SUBPIECE drops input1 low bytes.
 unfoldable pub dropped : Operation → ℕ
 dropped op = cond (eqb (op .opcode) 11) (op .input1 .offset) 0
 
+-- Where a byte comes from: it is a byte read, or zero fill, or filled by a byte read. Bytes read are counted from the least significant on.
+pub data Origin : Type 0 where
+  read : (k : ℕ) → Origin
+  zeros : Origin
+  filled : (k : ℕ) → Origin
+
+-- Where a move that reads `count` bytes has byte k of its target from, counted from the least significant on. What is missing above is
+-- zeros; 20 INT_SEXT fills it by the top byte.
+unfoldable pub origin : Operation → (count k : ℕ) → Origin
+origin op count k =
+    cond (ltb (dropped op + k) count) (read (dropped op + k)) (cond (eqb (op .opcode) 20) (filled (count - 1)) zeros)
+
+-- What comes from an origin, of some entries: bytes, or labels. `fill` is what one of them fills with.
+unfoldable pub entryFrom : (fill : ℕ → ℕ) → (entries : List ℕ) → Origin → ℕ
+entryFrom fill entries (read k) = getD entries k 0
+entryFrom fill entries zeros = 0
+entryFrom fill entries (filled k) = fill (getD entries k 0)
+
+-- What a move writes to `size` bytes, in memory order, of the entries read.
+unfoldable pub moved : (big : Bool) → Operation → (size : ℕ) → (fill : ℕ → ℕ) → (entries : List ℕ) → List ℕ
+moved big op size fill entries = tabulate size (λ i. entryFrom fill entries (origin op (length entries) (significance big size i)))
+
+-- ---- the bytes written
+
 -- The bytes of some varnodes, the least significant first, one varnode after the other.
 unfoldable pub digitsOf : Settings → Memory → List Varnode → List ℕ
 digitsOf settings m [] = []
 digitsOf settings m (v ∷ vs) = digitsAt settings m v ++ digitsOf settings m vs
+
+-- A byte fills with its sign: with the bit that counts 128.
+unfoldable pub signFill : (byte : ℕ) → ℕ
+signFill byte = cond (ltb byte 128) 0 255
 
 -- The values of some varnodes.
 unfoldable pub valuesOf : Settings → Memory → List Varnode → List ℕ
@@ -165,11 +196,11 @@ unfoldable pub computed : Operation → (values : List ℕ) → ℕ
 computed op values =
     result (op .opcode) (op .output .size) (op .input0 .size) (op .input1 .size) (getD values 0 0) (getD values 1 0)
 
--- The bytes that an operation writes to its target of `size` bytes, in memory order; missing high bytes are 0.
+-- The bytes that an operation writes to its target of `size` bytes, in memory order.
 unfoldable pub bytesWritten : Settings → Operation → (size : ℕ) → List Varnode → Memory → List ℕ
 bytesWritten settings op size vs m =
     cond (moves op)
-    (ordered (bigEndian settings) (part (digitsOf settings m vs) (dropped op) size))
+    (moved (bigEndian settings) op size signFill (digitsOf settings m vs))
     (bytesOf (bigEndian settings) size (computed op (valuesOf settings m vs)))
 
 -- ---- the labels written
@@ -184,7 +215,20 @@ unfoldable pub secret : (labels : Memory) → List Varnode → Bool
 secret labels [] = false
 secret labels (v ∷ vs) = anySecret (bytesAt labels v) || secret labels vs
 
--- All bytes of an output become secret if any byte of any varnode read, or any byte loaded, is secret; else public. STORE does this to
--- its target bytes by input2. What must be public is public here, so it need not be looked at again.
-unfoldable pub labelsWritten : (size : ℕ) → List Varnode → (labels : Memory) → List ℕ
-labelsWritten size vs labels = replicate size (flag (secret labels vs))
+-- The labels of some varnodes' bytes, as `digitsOf` has the bytes.
+unfoldable pub labelsOf : Settings → (labels : Memory) → List Varnode → List ℕ
+labelsOf settings labels [] = []
+labelsOf settings labels (v ∷ vs) = ordered (bigEndian settings) (bytesAt labels v) ++ labelsOf settings labels vs
+
+-- A label fills with itself.
+unfoldable pub labelFill : (label : ℕ) → ℕ
+labelFill label = label
+
+-- The labels that an operation writes to its target of `size` bytes. A move takes each byte's label along; zero fill is public, and INT_SEXT's
+-- fill has the label of the top byte. Of all others the whole output becomes secret if any byte of any varnode read is secret; else public.
+-- What must be public is public here, so it need not be looked at again.
+unfoldable pub labelsWritten : Settings → Operation → (size : ℕ) → List Varnode → (labels : Memory) → List ℕ
+labelsWritten settings op size vs labels =
+    cond (moves op)
+    (moved (bigEndian settings) op size labelFill (labelsOf settings labels vs))
+    (replicate size (flag (secret labels vs)))

@@ -11,5 +11,6 @@ pub mod Limits
 pub mod Marked
 pub mod Divisions
 pub mod Conditions
+pub mod FinerLabels
 pub mod Wordsizes
 pub mod Pinned

@@ -114,7 +114,7 @@ applyDecision program k op at labels m value (stop e) = halted (ended (endingOf 
 applyDecision program k op at labels m value (exit words d) = halted (ended 1 d (advanced at (at .index) words) labels m)
 applyDecision program k op at labels m value (next words i) =
     going (advanced at i words)
-    (written labels (target k op value) (labelsWritten (target k op value .size) (sources k op value) labels))
+    (written labels (target k op value) (labelsWritten (program .settings) op (target k op value .size) (sources k op value) labels))
     (written m (target k op value) (bytesWritten (program .settings) op (target k op value .size) (sources k op value) m))
 
 -- One operation of a kind: what must be public is looked at first.

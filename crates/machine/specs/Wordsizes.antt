@@ -12,7 +12,7 @@ use Rattle.operation.specs.declared.layout.Settings.{Settings}
 use Rattle.operation.specs.Layout.{allOne, wordsizeOf, wordsPerOperation, operationCount}
 use Rattle.operation.specs.Rules.{accesses}
 use Rattle.validation.specs.Verdict.{settingsInRange, verdict}
-use Rattle.machine.specs.Program.{Program}
+use Rattle.machine.specs.Program.{Program, bigEndian}
 use Rattle.machine.specs.Memory.{Memory, OfBytes, spaces, lengthsOf, spaceOf, valueAt}
 use Rattle.machine.specs.Effect.{Operation, operationAt, byteOffset, pointee}
 use Rattle.machine.specs.Run.{Position, Stepped, ended, continued, run}
@@ -26,7 +26,8 @@ unfoldable pub bytewiseStep : Program → Operation → Position → (labels mem
 bytewiseStep program op at labels m =
     let a : ℕ = valueAt (program .settings) m (op .input0) in
     let b : ℕ = valueAt (program .settings) m (op .input1) in
-    cond (leaks labels op) (Stepped.halted (ended 31 0 at labels m)) (exactStepWith program op a b at labels (labelsAfter labels op b) m)
+    cond (leaks labels op) (Stepped.halted (ended 31 0 at labels m))
+    (exactStepWith program op a b at labels (labelsAfter (bigEndian (program .settings)) labels op b) m)
 
 -- At n, END; count equals budget, BUDGET; `budget` is what is left of it.
 unfoldable pub bytewiseStepWithin : Program → (budget : ℕ) → Position → (labels memory : Memory) → Stepped

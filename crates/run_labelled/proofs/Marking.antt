@@ -7,10 +7,9 @@ use mathlib.Core.Bool.{Bool, true, false, cond, _&&_, true≢false}
 use mathlib.Core.List.{List, [], _∷_, _++_, append-assoc}
 use borrow.Author.Tests.{leb-false}
 use lib.Dec.{eqb, leb, ltb}
-use lib.ListN.{length, getD, take, drop, replicate, length-append}
+use lib.ListN.{length, getD, take, drop, length-append}
 use lib.Seq.{length-take-le, getD-append-seam}
 use Rattle.word.specs.Word.{bytesOf}
-use Rattle.integer.specs.Operations.{flag}
 use Rattle.arithmetic.specs.Opcodes.{member}
 use Rattle.operation.specs.declared.layout.Varnode.{Varnode}
 use Rattle.operation.specs.declared.report.Report.{Report}
@@ -21,8 +20,9 @@ use Rattle.machine.specs.Memory.{Memory, OfBytes, lengthsOf, spaceOf, written, 
 use Rattle.machine.specs.Effect.{Operation, operationAt, pointee}
 use Rattle.machine.specs.Run.{Position, logWord, advanced, ended, continued, run}
 use Rattle.machine.specs.Calls.{Outcome, unlabelled, logAfter, outcomeOf, plainOutcome, labelledOutcome}
-use Rattle.machine.specs.Conditions.{operand1, hasSecret, leaks, exceedsSpace, outOfBounds, dividesByZero, writesLog, lowPart, exits, destinationBytes, becomesSecret, labelsAfter, valueWritten, Words}
-use Rattle.machine.proofs.Conditions.{names-bytes, Formed, formed, few-operations, absent-written, constant-public}
+use Rattle.machine.specs.Conditions.{operand1, leaks, exceedsSpace, outOfBounds, dividesByZero, writesLog, lowPart, exits, destinationBytes, labelMoved, becomesSecret, labelWritten, labelsTold, labelsAfter}
+use Rattle.machine.specs.Conditions.{valueWritten, Words}
+use Rattle.machine.proofs.Conditions.{few-operations, absent-written}
 use Rattle.machine.proofs.Limits.{log-length}
 use Rattle.run_memory.specs.Placed.{Placed}
 use Rattle.run_plan.specs.declared.Plan.{Plan}
@@ -34,6 +34,7 @@ use Rattle.run_plan.proofs.Places.{valid-with, space-length, movable, branching
 use Rattle.run_plan.proofs.Steps.{wordsOf, applied, step-leak, step-applied, step-plain}
 use Rattle.run_execution.specs.Loops.{position}
 use Rattle.run_execution.proofs.Running.{ended-at, room-is, run-end}
+use Rattle.run_taint.specs.Taint.{LabelWord}
 use Rattle.run_labelled.specs.Turns.{offsetLogged, Markable}
 
 -- ---- what is marked
@@ -46,19 +47,19 @@ module _ (op : Operation) (b p : ℕ) (ep : p ≡ b) (target : Varnode) (et : ta
   pub nowhere-found : destinationBytes op b .space ≡ 0 → target .space ≡ 0
   nowhere-found z = ap (λ (v : Varnode). v .space) target-found ∙ z
 
-  pub marked : (labels : Memory) (secret : Bool) (after : Memory) → secret ≡ becomesSecret labels op p → after ≡ written labels target (replicate (target .size) (flag secret))
-      → after ≡ labelsAfter labels op b
+  pub marked : (big : Bool) (labels : Memory) (word : ℕ) (after : Memory) → LabelWord big labels op p word → after ≡ written labels target (bytesOf false (target .size) word)
+      → after ≡ labelsAfter big labels op b
   unfolding labelsAfter
-  marked labels secret after es e = e ∙ rw (target-found, es, ep) refl
+  marked big labels word after ew e = e ∙ rw (et, ew, ep) refl
 
-  pub unmarked : (labels : Memory) → target .space ≡ 0 → Placed labels (destinationBytes op b) → labels ≡ labelsAfter labels op b
+  pub unmarked : (big : Bool) (labels : Memory) → target .space ≡ 0 → Placed labels (destinationBytes op b) → labels ≡ labelsAfter big labels op b
   unfolding labelsAfter
-  unmarked labels z h = sym (absent-written labels (destinationBytes op b) _ (h .nowhere (ap (λ (v : Varnode). v .space) (sym target-found) ∙ z)))
+  unmarked big labels z h = sym (absent-written labels (destinationBytes op b) _ (h .nowhere (ap (λ (v : Varnode). v .space) (sym target-found) ∙ z)))
 
 -- the byte offset is looked at by LOAD and STORE alone
-other-offset : (labels : Memory) (op : Operation) (b c : ℕ) → accesses (op .opcode) ≡ false → labelsAfter labels op c ≡ labelsAfter labels op b
-unfolding labelsAfter destinationBytes becomesSecret
-other-offset labels op b c e = let n = no-access (op .opcode) e in rw (n .n2, n .n3) refl
+other-offset : (big : Bool) (labels : Memory) (op : Operation) (b c : ℕ) → accesses (op .opcode) ≡ false → labelsAfter big labels op c ≡ labelsAfter big labels op b
+unfolding labelsAfter labelsTold labelWritten labelMoved destinationBytes becomesSecret
+other-offset big labels op b c e = let n = no-access (op .opcode) e in rw (n .n2, n .n3) refl
 
 other-target : (op : Operation) (b c : ℕ) → accesses (op .opcode) ≡ false → destinationBytes op c ≡ destinationBytes op b
 unfolding destinationBytes
@@ -143,8 +144,8 @@ module _ (program : Program) (i k : ℕ) (log : List ℕ) (labels m : Memory) (w
     pub data Done (most : ℕ) : Type 0 where
       stays : done .executed ≡ 0 → Labelled most labels → Done most
       leaves : done .ending ≡ 1 → Labelled most labels → Done most
-      goes : (done .executed ≡ 0 → ⊥) → (done .ending ≡ 1 → ⊥) → i < operationCount (program .list) → leaks labels op ≡ false → outOfBounds m op b ≡ false
-          → (accesses (op .opcode) ≡ true → (k < length log₁) × (offsetLogged op log₁ k ≡ b)) → Labelled most (labelsAfter labels op (offsetLogged op log₁ k)) → Done most
+      goes : (done .executed ≡ 0 → ⊥) → (done .ending ≡ 1 → ⊥) → i < operationCount (program .list) → outOfBounds m op b ≡ false
+          → (accesses (op .opcode) ≡ true → (k < length log₁) × (offsetLogged op log₁ k ≡ b)) → Labelled most (labelsAfter (bigEndian (program .settings)) labels op (offsetLogged op log₁ k)) → Done most
 
     -- the same end with other labels
     relabel : (most e x : ℕ) (p : Position) (after n : Memory) → Plainly most → run program most at unlabelled m ≡ ended e x p unlabelled n
@@ -186,7 +187,7 @@ module _ (program : Program) (i k : ℕ) (log : List ℕ) (labels m : Memory) (w
       plain-step = ap (continued (run program 0)) (step-plain program at m words bytes v inside)
 
       module _ (public : leaks labels op ≡ false) (plain : Plainly 1) where
-        labelled-step : run program 1 at labels m ≡ continued (run program 0) (applied program P at labels (labelsAfter labels op b) m)
+        labelled-step : run program 1 at labels m ≡ continued (run program 0) (applied program P at labels (labelsAfter (bigEndian (program .settings)) labels op b) m)
         unfolding run position
         labelled-step = ap (continued (run program 0)) (step-applied program at labels m words bytes v inside public)
 
@@ -211,7 +212,7 @@ module _ (program : Program) (i k : ℕ) (log : List ℕ) (labels m : Memory) (w
           unfolding applied continued run advanced position
           went-plain = plain-step ∙ rw (es, no-room ef, ex) refl
 
-          went-labelled : run program 1 at labels m ≡ ended ending 0 after (labelsAfter labels op b) n
+          went-labelled : run program 1 at labels m ≡ ended ending 0 after (labelsAfter (bigEndian (program .settings)) labels op b) n
           unfolding applied continued run advanced position
           went-labelled = labelled-step ∙ rw (es, no-room ef, ex) refl
 
@@ -256,20 +257,20 @@ module _ (program : Program) (i k : ℕ) (log : List ℕ) (labels m : Memory) (w
               let h = room e in
               rw (w, log-length (take k log ++ (logWord i b ∷ [])) log l) h
 
-          marks : labelsAfter labels op (offsetLogged op log₁ k) ≡ labelsAfter labels op b
+          marks : labelsAfter (bigEndian (program .settings)) labels op (offsetLogged op log₁ k) ≡ labelsAfter (bigEndian (program .settings)) labels op b
           marks = by (accesses (op .opcode)) refl
             where
-              by : (t : Bool) → accesses (op .opcode) ≡ t → labelsAfter labels op (offsetLogged op log₁ k) ≡ labelsAfter labels op b
-              by true e = ap (labelsAfter labels op) (offset e)
-              by false e = other-offset labels op b (offsetLogged op log₁ k) e
+              by : (t : Bool) → accesses (op .opcode) ≡ t → labelsAfter (bigEndian (program .settings)) labels op (offsetLogged op log₁ k) ≡ labelsAfter (bigEndian (program .settings)) labels op b
+              by true e = ap (labelsAfter (bigEndian (program .settings)) labels op) (offset e)
+              by false e = other-offset (bigEndian (program .settings)) labels op b (offsetLogged op log₁ k) e
 
           went : Done 1
           unfolding advanced position
           went =
               let x : done .executed ≡ 1 = executed-is 1 ending 0 after n plain went-plain in
               let e = ending-is 1 ending 0 after n plain went-plain in
-              goes (λ z. omega arith) (λ z. not-one (ltb (P .next) (operationCount (program .list))) (sym e ∙ z)) inside public (plan-inside program m op i a b es)
-              (λ t. (longer t, offset t)) (rw marks (relabel 1 ending 0 after (labelsAfter labels op b) n plain went-plain went-labelled))
+              goes (λ z. omega arith) (λ z. not-one (ltb (P .next) (operationCount (program .list))) (sym e ∙ z)) inside (plan-inside program m op i a b es)
+              (λ t. (longer t, offset t)) (rw marks (relabel 1 ending 0 after (labelsAfter (bigEndian (program .settings)) labels op b) n plain went-plain went-labelled))
             where
               not-one : (t : Bool) → _≡_ {A = ℕ} (cond t 2 0) 1 → ⊥
               not-one true z = let q : _≡_ {A = ℕ} 2 1 = z in omega arith
@@ -290,7 +291,7 @@ module _ (program : Program) (i k : ℕ) (log : List ℕ) (labels m : Memory) (w
 
   -- ---- what may be marked
 
-  module _ (log₁ : List ℕ) (inside : i < operationCount (program .list)) (public : leaks labels op ≡ false) (bounds : outOfBounds m op b ≡ false)
+  module _ (log₁ : List ℕ) (inside : i < operationCount (program .list)) (bounds : outOfBounds m op b ≡ false)
       (logged : accesses (op .opcode) ≡ true → (k < length log₁) × (offsetLogged op log₁ k ≡ b)) where
     valid : Valid (lengthsOf labels) (program .list)
     valid = valid-with fit v
@@ -321,21 +322,6 @@ module _ (program : Program) (i k : ℕ) (log : List ℕ) (labels m : Memory) (w
             let h = branching m (v .addressSize) (program .list) i (v .operations i inside) (program .settings) words bytes small e in
             absurd (s (rw (each-branch (λ n. eqb n 3 ≡ false) refl refl refl (op .opcode) e, h .noOutput) refl))
 
-    public-pointer : eqb (op .opcode) 2 ≡ true → hasSecret labels (op .input1) ≡ false
-    unfolding leaks member
-    public-pointer e = by (hasSecret labels (op .input1)) refl
-      where
-        by : (t : Bool) → hasSecret labels (op .input1) ≡ t → t ≡ false
-        by false h = refl
-        by true h = absurd (true≢false (rw (e, h) at public))
-
-    names-constant : eqb (op .opcode) 2 ≡ true → op .input0 .space ≡ 1
-    unfolding operationAt
-    names-constant e =
-        let small = few-operations (lengthsOf m) (program .list) (v .inRange) in
-        let f : Formed (program .settings) m i op = formed (program .settings) (v .addressSize) (program .list) i m words bytes small (v .operations i inside) in
-        names-bytes (op .input0) (f .named (loads-access e)) .0
-
     pub markable : Markable labels (program .list) log₁ i k
     unfolding operationAt pointee
     markable = record {
@@ -355,7 +341,5 @@ module _ (program : Program) (i k : ℕ) (log : List ℕ) (labels m : Memory) (w
               nowhere = λ z. absurd (let s : 2 ≤ op .input0 .offset = h .space .0 in let y : ⊥ = omega arith in y);
               within = λ z. loaded-within labels op b bounded e;
             });
-        public0 = λ e. constant-public labels (op .input0) (names-constant e);
-        public1 = public-pointer;
       };
     }

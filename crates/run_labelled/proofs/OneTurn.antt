@@ -9,7 +9,7 @@ use lib.Dec.{eqb, ltb}
 use lib.ListN.{length}
 use Rattle.operation.specs.declared.report.Report.{Report}
 use Rattle.operation.specs.Layout.{operationCount}
-use Rattle.machine.specs.Program.{Program}
+use Rattle.machine.specs.Program.{Program, bigEndian}
 use Rattle.machine.specs.Memory.{Memory, OfBytes, lengthsOf}
 use Rattle.machine.specs.Effect.{Operation, operationAt}
 use Rattle.machine.specs.Run.{run}
@@ -125,14 +125,14 @@ module _ (labelled : Bool) (program : Program) (i k most : ℕ) (log : List ℕ)
           of-done : (l : labelled ≡ true) → Done program i k log labels m words bytes v place (fit .lengths l) done m₁ log₁ most → Markable labels (program .list) log₁ i k
           of-done l (Done.stays e h) = no-went (stayed e) t
           of-done l (Done.leaves e h) = no-went (exited e) t
-          of-done l (Done.goes x y h p bounds logged o) =
-              markable program i k log labels m words bytes v place (fit .lengths l) log₁ h p bounds logged
+          of-done l (Done.goes x y h bounds logged o) =
+              markable program i k log labels m words bytes v place (fit .lengths l) log₁ h bounds logged
 
           by : Turn → Markable labels (program .list) log₁ i k
           by (unlabelledTurn l) = no-went (unlabelled-stays l) t
           by (labelledTurn l d) = of-done l d
 
-      module _ (labels₁ : Memory) (eb : labels₁ ≡ cond went (labelsAfter labels op (offsetLogged op log₁ k)) labels) where
+      module _ (labels₁ : Memory) (eb : labels₁ ≡ cond went (labelsAfter (bigEndian (program .settings)) labels op (offsetLogged op log₁ k)) labels) where
         unchanged : went ≡ false → labels₁ ≡ labels
         unchanged f = eb ∙ rw f refl
 
@@ -142,9 +142,9 @@ module _ (labelled : Bool) (program : Program) (i k most : ℕ) (log : List ℕ)
             of-done : (l : labelled ≡ true) → Done program i k log labels m words bytes v place (fit .lengths l) done m₁ log₁ most → Labelled labels₁
             of-done l (Done.stays e h) = rw (unchanged (stayed e)) h
             of-done l (Done.leaves e h) = rw (unchanged (exited e)) h
-            of-done l (Done.goes x y h p bounds logged o) =
+            of-done l (Done.goes x y h bounds logged o) =
                 let on : went ≡ true = ew ∙ moved l x y in
-                let after : labels₁ ≡ labelsAfter labels op (offsetLogged op log₁ k) = eb ∙ rw on refl in
+                let after : labels₁ ≡ labelsAfter (bigEndian (program .settings)) labels op (offsetLogged op log₁ k) = eb ∙ rw on refl in
                 rw after o
 
             by : Turn → Labelled labels₁

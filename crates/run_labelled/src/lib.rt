@@ -8,7 +8,7 @@ ghost use lib.ListN.{length};
 ghost use Rattle.operation.specs.Layout.{wordsPerOperation, operationCount, opcodeAt};
 ghost use Rattle.operation.specs.Rules.{accesses};
 ghost use Rattle.validation.specs.Verdict.{settingsInRange};
-ghost use Rattle.machine.specs.Program.{programOf};
+ghost use Rattle.machine.specs.Program.{programOf, bigEndian};
 ghost use Rattle.machine.specs.Memory.{spaces, lengthsOf};
 ghost use Rattle.machine.specs.Effect.{operationAt};
 ghost use Rattle.machine.specs.Run.{run};
@@ -27,7 +27,7 @@ use operation::rules::accesses;
 use run_execution::INDEX_WEIGHT;
 use run_execution::run_from;
 use run_memory::labels::mark;
-use run_taint::becomes_secret;
+use run_taint::labels_written;
 use run_taint::leaks_at;
 use run_taint::target_at;
 
@@ -137,6 +137,7 @@ fn step_at(
     let completed = completes(labelled, done.executed, done.ending);
     mark_after(
         completed,
+        settings,
         list,
         unique_labels,
         register_labels,
@@ -179,6 +180,7 @@ fn completes(labelled: bool, executed: u64, ending: u64) -> bool
 // The labels after operation i, if it was completed. Its log word, at k, holds the byte offset of LOAD and STORE.
 fn mark_after(
     completed: bool,
+    settings: Settings,
     list: &[u64],
     unique: &mut [u8],
     register: &mut [u8],
@@ -190,7 +192,7 @@ fn mark_after(
     requires { ⌜ (completed ≡ true → Markable (spaces (now unique) (now register) (now ram)) (now list) (now log) i k) ⌝ }
     ensures { λ _. ⌜ spaces (now (unique .exit)) (now (register .exit)) (now (ram .exit))
         ≡ cond completed
-        (labelsAfter (spaces (now (unique .entry)) (now (register .entry)) (now (ram .entry))) (operationAt (now (list .entry)) i)
+        (labelsAfter (bigEndian settings) (spaces (now (unique .entry)) (now (register .entry)) (now (ram .entry))) (operationAt (now (list .entry)) i)
         (offsetLogged (operationAt (now (list .entry)) i) (now (log .entry)) k))
         (spaces (now (unique .entry)) (now (register .entry)) (now (ram .entry))) ⌝ }
 {
@@ -198,8 +200,9 @@ fn mark_after(
         let offset = logged_offset(list, log, i, k);
         let target = target_at(list, i, offset);
         if target.space != 0 {
-            let secret = becomes_secret(list, unique, register, ram, i, offset);
-            mark(unique, register, ram, target, secret);
+            let big = settings.order == 1;
+            let labels = labels_written(big, list, unique, register, ram, i, offset);
+            mark(unique, register, ram, target, labels);
         }
     }
 }

@@ -1,19 +1,22 @@
--- The labels of a varnode as one number: it is 0 where each label is, and its bytes are the labels.
+-- The labels of a varnode as one number: it is 0 where each label is.
 use Prim.Native.Nat.{ℕ, zero, suc, _+_, _*_, _^_, _≤_, _<_}
 use mathlib.Core.Path.{_≡_, refl, sym, ap, _∙_}
 use mathlib.Core.Bool.{Bool, true, false, not}
-use mathlib.Core.List.{List}
+use mathlib.Core.List.{List, []}
 use native.Mathlib.Nat.{zero-mul, mul-lt-mul-of-pos-right}
 use native.Mathlib.Omega.{arith}
-use borrow.Author.Tests.{eqb-true, eqb-false, eq-eqb, not-false}
-use lib.Dec.{eqb}
-use lib.ListN.{getD, replicate, length-replicate, getD-replicate}
+use borrow.Author.Tests.{eqb-true, eqb-false, eq-eqb, ne-eqb, not-false}
+use lib.Dec.{eqb, lit<}
+use lib.ListN.{length, getD}
+use lib.Seq.{sets}
 use Rattle.word.specs.Sum.{sum, tabulate, digit}
 use Rattle.word.specs.Word.{part, significance, valueOf, bytesOf}
-use Rattle.word.proofs.Sums.{tabulate-is}
+use Rattle.word.proofs.Digits.{digit-of}
 use Rattle.word.proofs.Powers.{size-pos}
-use Rattle.word.proofs.Laws.{bytes-at, gathered, gathered-all}
+use Rattle.word.proofs.Laws.{stored-part, stored-length, bytes-length, bytes-bytes, written-read, gathered, gathered-all}
 use Rattle.integer.proofs.Booleans.{neither}
+use Rattle.operation.specs.declared.layout.Varnode.{Varnode}
+use Rattle.machine.specs.Memory.{Memory, spaceOf, bytesAt}
 use Rattle.machine.specs.Effect.{anySecret}
 
 -- ---- labels that are all 0
@@ -36,6 +39,11 @@ unfolding sum
 sum-zeros zero f h = refl
 sum-zeros (suc n) f h = rw (sum-zeros n f (λ i l. h i (omega arith)), h n (omega arith)) (omega (arith, zero-mul (256 ^ n)))
 
+sum-zero : (n : ℕ) (f : ℕ → ℕ) → ((i : ℕ) → f i ≡ 0) → sum n f ≡ 0
+unfolding sum
+sum-zero zero f h = refl
+sum-zero (suc n) f h = rw (sum-zero n f h, h n) refl
+
 factor-zero : (a k : ℕ) → a * 256 ^ k ≡ 0 → a ≡ 0
 factor-zero zero k e = refl
 factor-zero (suc a) k e =
@@ -50,28 +58,53 @@ zeros-sum (suc n) f e i l = by (eqb i n) refl (zeros-sum n f (omega arith) i)
     by true q h = rw (eqb-true i n q) (factor-zero (f n) n (omega arith))
     by false q h = let d : i ≡ n → ⊥ = eqb-false i n q in h (omega arith)
 
--- ---- what the code looks at, and what it writes
+-- ---- what the code looks at
 
-pub number-secret : (labels : List ℕ) (at size : ℕ) → not (eqb (valueOf false (part labels at size)) 0) ≡ anySecret (part labels at size)
-unfolding part gathered significance
-number-secret labels at size = rw (← (gathered-all false labels at size)) (by (eqb number 0) refl (anySecret (tabulate size label)) refl)
+pub number-secret : (labels : Memory) (v : Varnode) → not (eqb (valueOf false (bytesAt labels v)) 0) ≡ anySecret (bytesAt labels v)
+unfolding bytesAt part gathered significance
+number-secret labels v = rw (← (gathered-all false (spaceOf labels (v .space)) (v .offset) (v .size))) (by (eqb number 0) refl (anySecret (tabulate (v .size) label)) refl)
   where
     label : ℕ → ℕ
-    label i = getD labels (at + i) 0
+    label i = getD (spaceOf labels (v .space)) (v .offset + i) 0
 
     number : ℕ
-    number = sum size (λ i. label i * 256 ^ i)
+    number = sum (v .size) (λ i. label i * 256 ^ i)
 
-    by : (t : Bool) → eqb number 0 ≡ t → (s : Bool) → anySecret (tabulate size label) ≡ s → not t ≡ s
-    by true e true q = sym (tabulate-public size label (zeros-sum size label (eqb-true number 0 e))) ∙ q
+    by : (t : Bool) → eqb number 0 ≡ t → (s : Bool) → anySecret (tabulate (v .size) label) ≡ s → not t ≡ s
+    by true e true q = sym (tabulate-public (v .size) label (zeros-sum (v .size) label (eqb-true number 0 e))) ∙ q
     by true e false q = refl
     by false e true q = refl
-    by false e false q = sym (eq-eqb number 0 (sum-zeros size label (public-tabulate size label q))) ∙ e
+    by false e false q = sym (eq-eqb number 0 (sum-zeros (v .size) label (public-tabulate (v .size) label q))) ∙ e
 
-pub same-labels : (size label n : ℕ) → size ≤ 8 → bytesOf false 8 n ≡ replicate 8 label → bytesOf false size n ≡ replicate size label
-unfolding bytesOf significance
-same-labels size label n h e =
-    tabulate-is size (λ i. digit 256 n i) (replicate size label) (length-replicate size label)
-    (λ i l.
-    sym (bytes-at false 8 n i (omega arith)) ∙ ap (λ (bs : List ℕ). getD bs i 0) e ∙ getD-replicate 8 i label 0 (omega arith)
-    ∙ sym (getD-replicate size i label 0 l))
+-- a constant has no bytes in a space, and an absent varnode has none at all
+no-space : (labels : Memory) (space : ℕ) → space < 2 → spaceOf labels space ≡ []
+unfolding spaceOf
+no-space labels space h = rw (ne-eqb space 2 (λ e. omega arith), ne-eqb space 3 (λ e. omega arith), ne-eqb space 4 (λ e. omega arith)) refl
+
+pub constant-labels : (big : Bool) (labels : Memory) (v : Varnode) → v .space < 2 → valueOf big (bytesAt labels v) ≡ 0
+unfolding bytesAt gathered
+constant-labels big labels v h =
+    rw (no-space labels (v .space) h, ← (gathered-all big [] (v .offset) (v .size)))
+    (sum-zero (v .size) (λ i. getD [] (v .offset + i) 0 * 256 ^ significance big (v .size) i) (λ i. zero-mul (256 ^ significance big (v .size) i)))
+
+-- ---- the same label in eight bytes
+
+pub same-labels : (label : ℕ) → label < 256 → (k : ℕ) → k < 8 → digit 256 (label * 0x0101010101010101) k ≡ label
+unfolding sum
+same-labels label h k l =
+    let e : label * 0x0101010101010101 ≡ sum 8 (λ i. label * 256 ^ i) = omega arith in
+    ap (λ (n : ℕ). digit 256 n k) e ∙ digit-of 256 (lit< tt) 8 (λ i. label) (λ i m. h) k l
+
+-- ---- bytes written in one order and read in the other
+
+module _ (l : List ℕ) (eight : length l ≡ 8) (big : Bool) (size n : ℕ) (most : size ≤ 8) (after : List ℕ) (e : after ≡ sets l 0 (bytesOf big size n)) where
+  pub still-eight : length after ≡ 8
+  still-eight = ap length e ∙ stored-length l 0 (bytesOf big size n) ∙ eight
+
+  pub read-back : (r : ℕ) → r ≡ valueOf false (part after 0 size) → bytesOf false size r ≡ bytesOf big size n
+  read-back r er =
+      let c : length (bytesOf big size n) ≡ size = bytes-length big size n in
+      let p : part after 0 size ≡ bytesOf big size n =
+      ap (λ (bs : List ℕ). part bs 0 size) e ∙ ap (part (sets l 0 (bytesOf big size n)) 0) (sym c) ∙ stored-part l 0 (bytesOf big size n) (omega arith) in
+      ap (bytesOf false size) (er ∙ ap (valueOf false) p) ∙ ap (λ (k : ℕ). bytesOf false k (valueOf false (bytesOf big size n))) (sym c)
+      ∙ written-read false (bytesOf big size n) (bytes-bytes big size n)

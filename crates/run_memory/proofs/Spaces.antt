@@ -2,7 +2,7 @@
 use Prim.Native.Nat.{ℕ, zero, suc, _+_, _≤_}
 use mathlib.Core.Path.{_≡_, refl, sym, subst}
 use mathlib.Core.Logic.{_⊎_, inl, inr, ⊎-elim}
-use mathlib.Core.Bool.{Bool, false, cond}
+use mathlib.Core.Bool.{Bool, cond}
 use mathlib.Core.List.{List}
 use native.Mathlib.Omega.{arith}
 use borrow.Author.Tests.{eq-eqb, ne-eqb}
@@ -16,8 +16,6 @@ use Rattle.operation.specs.declared.layout.Varnode.{Varnode}
 use Rattle.machine.specs.Program.{bigEndian}
 use Rattle.machine.specs.Memory.{Memory, spaceOf, bytesAt, valueAt, withSpace, written}
 use Rattle.operation.specs.Layout.{absent}
-use Rattle.machine.specs.Effect.{anySecret}
-use Rattle.machine.specs.Conditions.{hasSecret}
 use Rattle.run_memory.specs.Placed.{Placed}
 
 -- ---- in the space n
@@ -29,10 +27,6 @@ module _ (m : Memory) (v : Varnode) (n : ℕ) (e : v .space ≡ n) where
   pub value-in : 2 ≤ n → (settings : Settings) → valueAt settings m v ≡ valueOf (bigEndian settings) (part (spaceOf m n) (v .offset) (v .size))
   unfolding valueAt bytesAt
   value-in h settings = rw (e, ne-eqb n 1 (λ z. omega arith))
-
-  pub secret-in : 2 ≤ n → hasSecret m v ≡ anySecret (part (spaceOf m n) (v .offset) (v .size))
-  unfolding hasSecret bytesAt
-  secret-in h = rw (e, ne-eqb n 1 (λ z. omega arith))
 
   -- for a list that is the space's after a store
   pub written-in : (after bs : List ℕ) → after ≡ sets (spaceOf m n) (v .offset) bs → withSpace m n after ≡ written m v bs
@@ -52,6 +46,11 @@ module _ (m : Memory) (v : Varnode) (h : 2 ≤ v .space) (bytes : List ℕ) (e :
   unfolding bytesAt
   number-gathered big = rw (e, ne-eqb (v .space) 1 (λ z. omega arith)) refl
 
+pub labels-gathered : (m : Memory) (v : Varnode) (bytes : List ℕ) → bytes ≡ spaceOf m (v .space) → (big : Bool)
+    → valueOf big (part bytes (v .offset) (v .size)) ≡ valueOf big (bytesAt m v)
+unfolding bytesAt
+labels-gathered m v bytes e big = rw e refl
+
 -- ---- in none of the three spaces: a constant, or absent
 
 module _ (m : Memory) (v : Varnode) (not2 : v .space ≡ 2 → ⊥) (not3 : v .space ≡ 3 → ⊥) (not4 : v .space ≡ 4 → ⊥) where
@@ -70,10 +69,6 @@ module _ (m : Memory) (v : Varnode) (not2 : v .space ≡ 2 → ⊥) (not3 : v .s
   pub number-elsewhere : Placed m v → (big : Bool) → cond (eqb (v .space) 1) (v .offset) (valueOf big (bytesAt m v)) ≡ v .offset
   unfolding bytesAt part valueOf sum tabulate absent
   number-elsewhere p big = ⊎-elim (λ e. rw (eq-eqb (v .space) 1 e)) (λ e. rw e) (elsewhere p)
-
-  pub secret-elsewhere : Placed m v → hasSecret m v ≡ false
-  unfolding hasSecret bytesAt part tabulate anySecret absent
-  secret-elsewhere p = ⊎-elim (λ e. rw (eq-eqb (v .space) 1 e)) (λ e. rw e) (elsewhere p)
 
   pub written-elsewhere : (bs : List ℕ) → written m v bs ≡ m
   unfolding written withSpace

@@ -1,11 +1,10 @@
-// Taint labels: whether a byte of a varnode is secret, and the label that all its bytes get. The labels of a varnode go as one number,
-// as its bytes do.
+// Taint labels. Those of a varnode go as one number, as its bytes do.
 ghost use mathlib.Core.Path.{_≡_};
 ghost use mathlib.Core.Bool.{false};
-ghost use lib.ListN.{replicate};
-ghost use Rattle.word.specs.Word.{bytesOf};
-ghost use Rattle.integer.specs.Operations.{flag};
-ghost use Rattle.machine.specs.Memory.{spaces, written};
+ghost use Prim.Native.Nat.{ℕ, _≤_, _<_};
+ghost use Rattle.word.specs.Sum.{digit};
+ghost use Rattle.word.specs.Word.{valueOf, bytesOf};
+ghost use Rattle.machine.specs.Memory.{spaces, bytesAt, written};
 ghost use Rattle.machine.specs.Conditions.{hasSecret};
 ghost use Rattle.run_memory.specs.Placed.{Placed};
 use super::space::space_of;
@@ -13,30 +12,43 @@ use operation::layout::Varnode;
 use word::bytes::gather;
 use word::bytes::scatter;
 
-// A byte of a varnode is secret: the number that its labels make is not 0. Constants are public.
-pub fn has_secret<'a>(unique: &'a [u8], register: &'a [u8], ram: &'a [u8], v: Varnode) -> bool
+// The number that the labels of a varnode make in a byte order. Those of a constant are 0.
+pub fn labels_at<'a>(
+    big: bool,
+    unique: &'a [u8],
+    register: &'a [u8],
+    ram: &'a [u8],
+    v: Varnode,
+) -> u64
     requires { ⌜ Placed (spaces (now unique) (now register) (now ram)) v ⌝ }
-    ensures { λ r. ⌜ r ≡ hasSecret (spaces (now (unique .entry)) (now (register .entry)) (now (ram .entry))) v ⌝ }
+    ensures { λ r. ⌜ r ≡ valueOf big (bytesAt (spaces (now (unique .entry)) (now (register .entry)) (now (ram .entry))) v) ⌝ }
 {
     if v.space < 2 {
-        return false;
+        return 0;
     }
     let labels = space_of(unique, register, ram, v.space);
     let at = v.offset as usize;
     let size = v.size as usize;
-    gather(false, labels, at, size) != 0
+    gather(big, labels, at, size)
 }
 
-// Gives all bytes of a varnode one label, 1 secret or 0 public.
-pub fn mark(unique: &mut [u8], register: &mut [u8], ram: &mut [u8], v: Varnode, secret: bool)
+// A byte of a varnode is secret: the number that its labels make is not 0.
+pub fn has_secret<'a>(unique: &'a [u8], register: &'a [u8], ram: &'a [u8], v: Varnode) -> bool
+    requires { ⌜ Placed (spaces (now unique) (now register) (now ram)) v ⌝ }
+    ensures { λ r. ⌜ r ≡ hasSecret (spaces (now (unique .entry)) (now (register .entry)) (now (ram .entry))) v ⌝ }
+{
+    labels_at(false, unique, register, ram, v) != 0
+}
+
+// Writes labels to a varnode, as the number that they make in little order; to an absent one, nothing.
+pub fn mark(unique: &mut [u8], register: &mut [u8], ram: &mut [u8], v: Varnode, labels: u64)
     requires { ⌜ Placed (spaces (now unique) (now register) (now ram)) v ⌝ }
     ensures { λ _. ⌜ spaces (now (unique .exit)) (now (register .exit)) (now (ram .exit))
-        ≡ written (spaces (now (unique .entry)) (now (register .entry)) (now (ram .entry))) v (replicate (v .size) (flag secret)) ⌝ }
+        ≡ written (spaces (now (unique .entry)) (now (register .entry)) (now (ram .entry))) v (bytesOf false (v .size) labels) ⌝ }
 {
     let space = v.space;
     let at = v.offset as usize;
     let size = v.size as usize;
-    let labels = eight_labels(secret);
     match space {
         2 => scatter(false, unique, at, size, labels),
         3 => scatter(false, register, at, size, labels),
@@ -45,9 +57,20 @@ pub fn mark(unique: &mut [u8], register: &mut [u8], ram: &mut [u8], v: Varnode, 
     }
 }
 
-// The number that eight labels make, all secret or all public.
-fn eight_labels(secret: bool) -> u64
-    ensures { λ r. ⌜ bytesOf false 8 r ≡ replicate 8 (flag secret) ⌝ }
+// The number that eight times the same label makes.
+pub fn each_label(label: u64) -> u64
+    requires { ⌜ label < 256 ⌝ }
+    ensures { λ r. ⌜ ((k : ℕ) → k < 8 → digit 256 r k ≡ label) ⌝ }
 {
-    if secret { 0x0101010101010101 } else { 0 }
+    label * 0x0101010101010101
+}
+
+// The number, in little order, of the bytes that a number makes in a byte order.
+pub fn in_memory(big: bool, size: usize, n: u64) -> u64
+    requires { ⌜ size ≤ 8 ⌝ }
+    ensures { λ r. ⌜ bytesOf false size r ≡ bytesOf big size n ⌝ }
+{
+    let mut bytes = [0u8; 8];
+    scatter(big, &mut bytes, 0, size, n);
+    gather(false, &bytes, 0, size)
 }

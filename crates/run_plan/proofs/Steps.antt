@@ -110,9 +110,9 @@ module _ (program : Program) (at : Position) (labels m : Memory) (words : Words 
 
   -- else the plan carried out
   pub step-applied : leaks labels op ≡ false
-      → stepped program at labels m ≡ applied program (planned program m op (at .index) a b) at labels (labelsAfter labels op b) m
+      → stepped program at labels m ≡ applied program (planned program m op (at .index) a b) at labels (labelsAfter (bigEndian (program .settings)) labels op b) m
   unfolding exactStep
-  step-applied e = step-exactStep ∙ rw e (exactStep-applied program op a b at labels (labelsAfter labels op b) m)
+  step-applied e = step-exactStep ∙ rw e (exactStep-applied program op a b at labels (labelsAfter (bigEndian (program .settings)) labels op b) m)
 
 -- without labels nothing leaks, and nothing is marked
 module _ (program : Program) (at : Position) (m : Memory) (words : Words (program .list)) (bytes : OfBytes m)

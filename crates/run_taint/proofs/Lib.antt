@@ -1,1 +1,2 @@
 pub mod Tainting
+pub mod LabelWords

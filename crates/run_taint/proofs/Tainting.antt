@@ -15,7 +15,7 @@ use Rattle.operation.specs.Layout.{operationCount, opcodeAt, varnodeAt, absent}
 use Rattle.operation.specs.Rules.{accesses, branches, jumps}
 use Rattle.machine.specs.Memory.{Memory, lengthsOf}
 use Rattle.machine.specs.Effect.{Operation, operationAt, pointee}
-use Rattle.machine.specs.Conditions.{hasSecret, leaks, destinationBytes, becomesSecret}
+use Rattle.machine.specs.Conditions.{hasSecret, leaks, destinationBytes}
 use Rattle.machine.proofs.Conditions.{absent-public}
 use Rattle.run_memory.specs.Placed.{Placed}
 use Rattle.run_plan.specs.Valid.{Valid}
@@ -118,7 +118,7 @@ leaks-watched labels op d = leaks-by labels op ∙ rw d (or-false _ ∙ or-false
     by true e = rw (jump-no-access n e, jump-no-condition n e, e) refl
     by false e = rw (e, tested (accesses n || eqb n 5)) (or-false _ ∙ by-one (accesses n) (eqb n 5) (hasSecret labels (op .input1)))
 
--- ---- what is written to, and whether it becomes secret
+-- ---- what is written to
 
 module _ (op : Operation) (b : ℕ) where
   pub stores : eqb (op .opcode) 3 ≡ true → pointee op b (op .input2 .size) ≡ destinationBytes op b
@@ -128,21 +128,6 @@ module _ (op : Operation) (b : ℕ) where
   pub outputs : eqb (op .opcode) 3 ≡ false → op .output ≡ destinationBytes op b
   unfolding destinationBytes
   outputs e = rw e refl
-
-module _ (labels : Memory) (op : Operation) (b : ℕ) where
-  pub by-stored : eqb (op .opcode) 3 ≡ true → hasSecret labels (op .input2) ≡ becomesSecret labels op b
-  unfolding becomesSecret
-  by-stored e = rw e refl
-
-  module _ (n3 : eqb (op .opcode) 3 ≡ false) where
-    pub by-loaded : eqb (op .opcode) 2 ≡ true → hasSecret labels (op .input0) ≡ false → hasSecret labels (op .input1) ≡ false
-        → hasSecret labels (pointee op b (op .output .size)) ≡ becomesSecret labels op b
-    unfolding becomesSecret
-    by-loaded e p0 p1 = rw (n3, e, p0, p1) refl
-
-    pub by-inputs : eqb (op .opcode) 2 ≡ false → hasSecret labels (op .input0) || hasSecret labels (op .input1) ≡ becomesSecret labels op b
-    unfolding becomesSecret
-    by-inputs e = rw (n3, e) (sym (or-false _))
 
 -- ---- where the code may look
 

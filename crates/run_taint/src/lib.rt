@@ -1,26 +1,36 @@
-// What an operation must find public, and what becomes secret by it.
+// What an operation must find public, and the labels that it writes.
 ghost use mathlib.Core.Path.{_≡_};
-ghost use mathlib.Core.Bool.{false};
-ghost use Prim.Native.Nat.{_+_, _*_, _≤_, _<_};
+ghost use mathlib.Core.Bool.{true, false, cond};
+ghost use Prim.Native.Nat.{ℕ, _+_, _*_, _-_, _^_, _≤_, _<_};
+ghost use lib.Dec.{ltb};
 ghost use lib.ListN.{length};
+ghost use Rattle.word.specs.Sum.{digit};
+ghost use Rattle.arithmetic.specs.Opcodes.{member};
 ghost use Rattle.arithmetic.specs.Operands.{divides};
 ghost use Rattle.operation.specs.Layout.{wordsPerOperation, operationCount, absent, opcodeAt};
 ghost use Rattle.machine.specs.Memory.{Memory, spaces, lengthsOf};
 ghost use Rattle.machine.specs.Effect.{operationAt, pointee};
-ghost use Rattle.machine.specs.Conditions.{hasSecret, leaks, destinationBytes, becomesSecret};
+ghost use Rattle.machine.specs.Conditions.{hasSecret, leaks, destinationBytes};
 ghost use Rattle.run_memory.specs.Placed.{Placed};
 ghost use Rattle.run_plan.specs.Valid.{Valid};
-ghost use Rattle.run_taint.specs.Taint.{Readable};
+ghost use Rattle.run_taint.specs.Taint.{Readable, moving, sourceOf, LabelWord, MovableWords, movedByte};
 use arithmetic::opcodes::FIRST_INTEGER;
 use arithmetic::operands::is_division;
 use integer::boolean::either;
+use integer::boolean::flag;
+use integer::unsigned::piece;
+use integer::unsigned::subpiece;
 use operation::layout::Varnode;
 use operation::layout::absent;
 use operation::layout::opcode_at;
 use operation::layout::varnode_at;
 use operation::rules::accesses;
 use operation::rules::jumps;
+use run_memory::labels::each_label;
 use run_memory::labels::has_secret;
+use run_memory::labels::in_memory;
+use run_memory::labels::labels_at;
+use word::size::low;
 
 // LEAK: a byte that must be public is secret. Of a division both operands must be public, of any other operation at most one varnode.
 pub fn leaks_at<'a>(
@@ -86,42 +96,120 @@ pub fn target_at(list: &[u64], i: usize, offset: u64) -> Varnode
     varnode_at(list, i, 0)
 }
 
-// Whether what operation i writes becomes secret. A LOAD's own varnodes are public by now, so only the bytes loaded are looked at. The
-// first test tells most operations, which look at both inputs, as COPY does at last.
-pub fn becomes_secret<'a>(
+// The labels that operation i writes to its target, as the number that they make in little order. A move takes each byte's label along; of any
+// other operation all bytes become secret if a byte of an input is.
+pub fn labels_written<'a>(
+    big: bool,
     list: &[u64],
     unique: &'a [u8],
     register: &'a [u8],
     ram: &'a [u8],
     i: usize,
     offset: u64,
-) -> bool
+) -> u64
     requires { ⌜ Readable (spaces (now unique) (now register) (now ram)) (now list) i offset ⌝ }
-    ensures { λ r. ⌜ r ≡ becomesSecret (spaces (now (unique .entry)) (now (register .entry)) (now (ram .entry))) (operationAt (now (list .entry)) i) offset ⌝ }
+    ensures { λ r. ⌜ LabelWord big (spaces (now (unique .entry)) (now (register .entry)) (now (ram .entry))) (operationAt (now (list .entry)) i) offset r ⌝ }
 {
-    let opcode = opcode_at(list, i);
-    if FIRST_INTEGER <= opcode {
-        let first = has_secret(unique, register, ram, varnode_at(list, i, 1));
-        return either(
-            first,
-            has_secret(unique, register, ram, varnode_at(list, i, 2)),
-        );
-    }
-    if opcode == 3 {
-        return has_secret(unique, register, ram, varnode_at(list, i, 3));
-    }
-    if opcode == 2 {
-        let output = varnode_at(list, i, 0);
-        return has_secret(
-            unique,
-            register,
-            ram,
-            pointee_at(list, i, offset, output.size),
-        );
+    if moves(opcode_at(list, i)) {
+        return moved_labels(big, list, unique, register, ram, i, offset);
     }
     let first = has_secret(unique, register, ram, varnode_at(list, i, 1));
-    either(
-        first,
-        has_secret(unique, register, ram, varnode_at(list, i, 2)),
-    )
+    let second = has_secret(unique, register, ram, varnode_at(list, i, 2));
+    each_label(flag(either(first, second)))
+}
+
+// COPY, LOAD, STORE, PIECE, SUBPIECE, INT_ZEXT, INT_SEXT. The first test tells most of the others; a test a line, as the classes of
+// `operation::rules`.
+fn moves(opcode: u64) -> bool
+    ensures { λ r. ⌜ r ≡ member opcode moving ⌝ }
+{
+    if 20 < opcode {
+        return false;
+    }
+    if opcode == 1 {
+        return true;
+    }
+    if opcode == 2 {
+        return true;
+    }
+    if opcode == 3 {
+        return true;
+    }
+    if opcode == 10 {
+        return true;
+    }
+    if opcode == 11 {
+        return true;
+    }
+    if opcode == 19 {
+        return true;
+    }
+    opcode == 20
+}
+
+// The labels that a move writes. COPY, LOAD and STORE keep the bytes in their places, in either order; the others work by significance.
+fn moved_labels<'a>(
+    big: bool,
+    list: &[u64],
+    unique: &'a [u8],
+    register: &'a [u8],
+    ram: &'a [u8],
+    i: usize,
+    offset: u64,
+) -> u64
+    requires { ⌜ Readable (spaces (now unique) (now register) (now ram)) (now list) i offset × (member (opcodeAt (now list) i) moving ≡ true) ⌝ }
+    ensures { λ r. ⌜ LabelWord big (spaces (now (unique .entry)) (now (register .entry)) (now (ram .entry))) (operationAt (now (list .entry)) i) offset r ⌝ }
+{
+    let opcode = opcode_at(list, i);
+    if opcode < FIRST_INTEGER {
+        let source = source_at(list, i, offset);
+        return labels_at(false, unique, register, ram, source);
+    }
+    let output = varnode_at(list, i, 0);
+    let input0 = varnode_at(list, i, 1);
+    let input1 = varnode_at(list, i, 2);
+    let a = labels_at(big, unique, register, ram, input0);
+    let b = labels_at(big, unique, register, ram, input1);
+    let word = moved_word(opcode, output.size, input0.size, input1, a, b);
+    in_memory(big, output.size as usize, word)
+}
+
+// What COPY, LOAD and STORE read: input0, the bytes loaded, or input2.
+fn source_at(list: &[u64], i: usize, offset: u64) -> Varnode
+    requires { ⌜ wordsPerOperation * i + wordsPerOperation ≤ length (now list) ⌝ }
+    ensures { λ r. ⌜ r ≡ sourceOf (operationAt (now (list .entry)) i) offset ⌝ }
+{
+    let opcode = opcode_at(list, i);
+    if opcode == 2 {
+        let output = varnode_at(list, i, 0);
+        return pointee_at(list, i, offset, output.size);
+    }
+    if opcode == 3 {
+        return varnode_at(list, i, 3);
+    }
+    varnode_at(list, i, 1)
+}
+
+// What PIECE, SUBPIECE, INT_ZEXT and INT_SEXT make of label words: a of input0 and b of input1. The value goes the same way, but for the fill
+// of INT_SEXT: a label is no sign.
+fn moved_word(opcode: u64, size: u64, size0: u64, input1: Varnode, a: u64, b: u64) -> u64
+    requires { ⌜ MovableWords opcode size size0 (input1 .size) a b ⌝ }
+    ensures { λ r. ⌜ ((k : ℕ) → k < size → digit 256 r k ≡ movedByte opcode size0 (input1 .size) (input1 .offset) a b k) ⌝ }
+{
+    match opcode {
+        10 => piece(input1.size, a, b),
+        11 => subpiece(size, a, input1.offset),
+        20 => extended_word(size, size0, a),
+        _ => a,
+    }
+}
+
+// INT_SEXT of a label word: the top label in each byte above.
+fn extended_word(size: u64, size0: u64, a: u64) -> u64
+    requires { ⌜ (1 ≤ size0) × (size0 < size) × (size ≤ 8) × (a < 256 ^ size0) ⌝ }
+    ensures { λ r. ⌜ ((k : ℕ) → k < size → digit 256 r k ≡ cond (ltb k size0) (digit 256 a k) (digit 256 a (size0 - 1))) ⌝ }
+{
+    let top = a >> (8 * (size0 - 1));
+    let fill = low(size - size0, each_label(top));
+    piece(size0, fill, a)
 }

@@ -6,8 +6,9 @@ use mathlib.Core.Bool.{Bool, true, false, cond, _&&_}
 use mathlib.Core.List.{List, [], _∷_}
 use borrow.Author.Tests.{eqb-true, eqb-false, ne-eqb, ltb-true, ltb-false}
 use lib.Dec.{eqb, ltb}
-use lib.ListN.{length, set, drop, length-replicate}
+use lib.ListN.{length, set, drop}
 use lib.Seq.{sets, length-sets, drop-set-lt}
+use Rattle.word.proofs.Sums.{tabulate-length}
 use Rattle.word.proofs.Laws.{bytes-length}
 use Rattle.word.proofs.Tests.{by-cond}
 use Rattle.integer.proofs.Booleans.{neither}
@@ -17,7 +18,7 @@ use Rattle.machine.specs.Program.{Program, bigEndian}
 use Rattle.machine.specs.Memory.{Memory, OfBytes, lengthsOf, written, valueAt}
 use Rattle.machine.specs.Effect.{Operation, operationAt, pointee}
 use Rattle.machine.specs.Run.{Position, Ended, Stepped, advanced, ended, continued, run}
-use Rattle.machine.specs.Conditions.{leaks, operand1, exceedsSpace, outOfBounds, destinationBytes, labelsAfter, Words}
+use Rattle.machine.specs.Conditions.{leaks, operand1, exceedsSpace, outOfBounds, destinationBytes, labelsTold, labelsAfter, Words}
 use Rattle.machine.proofs.Kept.{written-lengths}
 use Rattle.speculation.specs.Speculation.{journalWords}
 use Rattle.run_memory.specs.Placed.{Placed}
@@ -70,15 +71,15 @@ module _ (program : Program) (at : Position) (labels m : Memory) where
     abbrev Left : Stepped → Type 0
     Left s = Leaves (targetBefore program m (at .index)) (continued (run program 0) s)
 
-    applied-leaves : at .index < operationCount (program .list) → Left (applied program P at labels (labelsAfter labels op b) m)
-    unfolding applied continued run ended advanced labelsAfter nextPlan
+    applied-leaves : at .index < operationCount (program .list) → Left (applied program P at labels (labelsAfter (bigEndian (program .settings)) labels op b) m)
+    unfolding applied continued run ended advanced labelsAfter labelsTold nextPlan
     applied-leaves inside =
         by-cond Left (ltb 1 (P .stop)) _ _ (λ e. same refl refl)
         (λ es. by-cond Left (P .due && eqb (at .room) 0) _ _ (λ e. same refl refl)
         (λ ef. by-cond Left (eqb (P .stop) 1) _ _ (λ e. same refl refl)
         (λ ex. let next : P .target ≡ destinationBytes op b = ap (λ (p : Plan). p .target) (plan-next program m op (at .index) a b es ex) in
         let there : targetBefore program m (at .index) ≡ destinationBytes op b = target-is inside (plan-inside program m op (at .index) a b es) in
-        rw (there, next) (wrote _ _ (length-replicate _ _) (bytes-length (bigEndian (program .settings)) _ _) refl refl refl))))
+        rw (there, next) (wrote _ _ (tabulate-length _ _) (bytes-length (bigEndian (program .settings)) _ _) refl refl refl))))
 
     pub one-leaves : at .index ≤ operationCount (program .list) → Leaves (targetBefore program m (at .index)) (run program 1 at labels m)
     unfolding run continued ended

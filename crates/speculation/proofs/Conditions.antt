@@ -128,7 +128,7 @@ module _ (program : Program) (window : ℕ) (op : Operation) (at : Position) (la
   unfolding execute kindOf exactStepBy
   right-checked five d =
       ap (λ (k : Kind). executeAs program k op at labels m) (ap kindOf five)
-      ∙ cbranched program op at labels m word (op .input0 .offset) _ absent false 0 refl refl refl refl d
+      ∙ cbranched program op at labels m word (op .input0 .offset) _ absent [] 0 refl refl refl refl d
       ∙ rw (absent-written labels absent _ refl, absent-written m absent _ refl) refl
 
   branch-exact : op .opcode ≡ 5 → Destination (at .index) (op .input0) → (let right = execute program op at labels m in

@@ -14,7 +14,7 @@ use Rattle.operation.specs.Layout.{operationCount, wordAt, headByte, opcodeAt, 
 use Rattle.operation.specs.Rules.{branches, jumps, relativeTarget}
 use Rattle.machine.specs.Program.{Program, bigEndian}
 use Rattle.machine.specs.Memory.{Memory, spaces, spaceOf, withSpace, bytesAt, written, valueAt}
-use Rattle.machine.specs.Effect.{Operation, operationAt, kindOf, sinks, tested, resolved, sources, target, valuesOf, bytesWritten, anySecret, secret, labelsWritten}
+use Rattle.machine.specs.Effect.{Operation, operationAt, kindOf, sinks, tested, resolved, sources, target, moves, valuesOf, bytesWritten, anySecret, secret, labelsWritten}
 use Rattle.machine.specs.Run.{Position, endingOf, logging, indexOf, goTo, checked, decided, advanced, ended, resolvedValue, applyDecision, executeAs, execute, stepped, continued, run}
 use Rattle.machine.specs.Calls.{starting, unlabelled}
 use Rattle.machine.specs.Divisions.{divisionAt, dividedAfter, divided}
@@ -83,7 +83,7 @@ unfolding sum tabulate digit part significance valueOf signed member divides ope
     varnodeAt absent branches jumps relativeTarget spaceOf withSpace bytesAt written valueAt operationAt kindOf sinks tested resolved sources target
     valuesOf anySecret secret logging indexOf goTo checked decided advanced ended resolvedValue bigEndian applyDecision executeAs execute stepped
     continued run starting unlabelled divisionAt dividedAfter divided wayOf otherWay ahead windowOf withWords rightWay reached afterWindow tried
-    passed speculated dividedAhead dividedInWindow speculativelyDivided endingOf labelsWritten bytesWritten
+    passed speculated dividedAhead dividedInWindow speculativelyDivided endingOf moves labelsWritten bytesWritten
 known-answers = (refl, refl, refl)
 
 pub speculative-divisions : SpeculativeDivisions

@@ -5,7 +5,7 @@ use std::ops::Range;
 use std::sync::LazyLock;
 
 use reference::answers::{LentWords, VerdictCall};
-use reference::list::{list_of, varnode, Entry, WORDS_PER_OPERATION};
+use reference::list::{descriptor, list_of, varnode, Entry, WORDS_PER_OPERATION};
 use reference::opcodes::{Opcode, Operation, Sizes, OPERATIONS};
 use reference::varnode::{Lengths, Varnode, Wordsizes, CONSTANT, RAM, REGISTER, UNIQUE};
 use reference::verdict::{Settings, LONGEST_SPACE, MOST_OPERATIONS};
@@ -49,6 +49,13 @@ pub fn plain_entry(operation: &Operation, sizes: Sizes, input2_size: u64) -> Ent
 pub fn good_entry(operation: &Operation, address_size: u64) -> Entry {
     let mixes = operation.allowed_sizes(address_size);
     plain_entry(operation, mixes[mixes.len() / 2], 2)
+}
+
+/// The same operation with another varnode at a place.
+pub fn with_varnode(mut entry: Entry, place: usize, varnode: Varnode) -> Entry {
+    entry.descriptors[place] = descriptor(Some(varnode));
+    entry.offsets[place] = varnode.offset;
+    entry
 }
 
 /// What a well-formed operation depends on besides its index.

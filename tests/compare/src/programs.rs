@@ -4,7 +4,7 @@
 use reference::answers::{LentWords, RunCall, VerdictCall};
 use reference::arithmetic::fits;
 use reference::bytes::{write, ByteOrder};
-use reference::list::{descriptor, list_of, varnode, Entry};
+use reference::list::{list_of, varnode, Entry};
 use reference::machine::State;
 use reference::memory::{Spaces, PUBLIC, SECRET};
 use reference::opcodes::{Opcode, Operation, OPERATIONS};
@@ -13,12 +13,13 @@ use reference::varnode::{Lengths, Varnode, Wordsizes, CONSTANT, RAM};
 use reference::verdict::{Settings, LONGEST_SPACE};
 
 use crate::inputs::{first_product_too_large, largest_value, LARGE_OFFSETS};
-use crate::lists::{Frame, Generator};
+use crate::lists::{with_varnode, Frame, Generator};
 use crate::random::Random;
 use crate::runs::Case;
 
 mod branches;
 mod divisions;
+mod moves;
 mod speculative;
 
 /// The most operations that a run executes which does not end by itself.
@@ -510,8 +511,7 @@ fn accessed_size(access: &Entry) -> u64 {
 
 /// Puts a varnode at a place of an entry.
 fn put(entry: &mut Entry, place: usize, varnode: Varnode) {
-    entry.descriptors[place] = descriptor(Some(varnode));
-    entry.offsets[place] = varnode.offset;
+    *entry = with_varnode(*entry, place, varnode);
 }
 
 fn copy(output: Varnode, input0: Varnode) -> Entry {

@@ -5,7 +5,7 @@ use std::fmt;
 use reference::answers::{run_answer, LentWords, RunCall};
 use reference::list::WORDS_PER_OPERATION;
 use reference::machine::State;
-use reference::opcodes::Opcode;
+use reference::run::Observed;
 
 use crate::agreement::RESULT_WORDS;
 use crate::guards::{guard_word, Guarded, GuardedSpaces};
@@ -98,14 +98,14 @@ pub fn interpreter_report(job: Job, case: &mut Case) -> [u64; 5] {
 }
 
 /// Compares a run or a step that is lent so many words, with every buffer after it; what it left stays
-/// in `state`. Gives back the report, unless the call was refused, and names each operation
-/// executed to the observer.
+/// in `state`. Gives back the report, unless the call was refused, and tells the observer of each operation
+/// that the second program executed.
 pub fn check_run(
     job: Job,
     call: &RunCall,
     state: &mut State,
     lent: LentWords,
-    observer: impl FnMut(Opcode),
+    observer: impl FnMut(Observed),
 ) -> Option<[u64; 5]> {
     let before = state.clone();
     let budget = if job == Job::Step { 1 } else { call.budget };

@@ -3,10 +3,13 @@
 use std::fmt::Display;
 use std::iter::zip;
 
+use reference::fault::LEAK;
 use reference::machine::State;
 use reference::memory::{Spaces, SECRET};
 
+use crate::programs::Programs;
 use crate::random::Random;
+use crate::runs::{interpreter_report, Case, Job};
 
 /// The labels of a labelled state.
 pub fn labels(state: &State) -> &Spaces {
@@ -53,4 +56,49 @@ fn public_bytes_agree(one: &Spaces, other: &Spaces, labels: &Spaces) -> bool {
 /// The log words that a run wrote.
 pub fn written_log<'a>(state: &'a State, report: &[u64; 5]) -> &'a [u64] {
     &state.log[..report[3] as usize]
+}
+
+/// A case that `draw` makes and the same with other secret bytes, drawn until the two differ.
+pub fn memory_pair(programs: &mut Programs, draw: fn(&mut Programs) -> Case) -> [Case; 2] {
+    loop {
+        let one = draw(programs);
+        let state = with_other_secrets(&one.state, programs.random());
+        let other = Case { state, ..one.clone() };
+        if one.state.memory != other.state.memory {
+            return [one, other];
+        }
+    }
+}
+
+/// Runs a case and the same with other secret bytes, and fails if a secret byte shows, or if the plain
+/// run does otherwise. Gives back both as they were left, and the report.
+pub fn check_pair(before: &[Case; 2]) -> ([Case; 2], [u64; 5]) {
+    let mut after = before.clone();
+    let [report, other_report] = after.each_mut().map(|case| interpreter_report(Job::Run, case));
+    let [one, other] = &after;
+    assert_secrets_do_not_show(before, [(report, &one.state), (other_report, &other.state)]);
+    for (before, after) in zip(before, &after) {
+        assert_plain_run_is_the_same(before, after, &report);
+    }
+    (after, report)
+}
+
+/// Fails unless the plain run does what the labelled run did, where that did not end with LEAK and
+/// did not refuse its labels.
+fn assert_plain_run_is_the_same(before: &Case, after: &Case, report: &[u64; 5]) {
+    if report[0] == LEAK || !labels_hold(&before.state.memory, labels(&before.state)) {
+        return;
+    }
+    let mut plain = before.plain();
+    let plain_report = interpreter_report(Job::Run, &mut plain);
+    assert_eq!(plain_report, *report, "the reports, plain and labelled, on\n{before}");
+    assert_eq!(plain.state.log, after.state.log, "the logs, plain and labelled, after\n{before}");
+    let agrees = plain.state.memory == after.state.memory;
+    assert!(agrees, "other memory, plain and labelled, after\n{before}");
+}
+
+/// Whether each byte of the spaces has one label, public or secret.
+fn labels_hold(memory: &Spaces, labels: &Spaces) -> bool {
+    let are_labels = |space: &Vec<u8>| space.iter().all(|&label| label <= SECRET);
+    memory.lengths() == labels.lengths() && labels.all().into_iter().all(are_labels)
 }

@@ -147,7 +147,7 @@ impl<'a> Watch<'a> {
                 self.count_operation(index, written, state);
             }
             speculative::Event::Closed { closing, at } => self.count_closed(closing, at),
-            speculative::Event::Counted { index } => self.last_counted = Some(index),
+            speculative::Event::Counted { index, .. } => self.last_counted = Some(index),
         }
     }
 
@@ -252,7 +252,7 @@ impl<'a> Watch<'a> {
 }
 
 /// A byte of memory, by its space and its offset.
-type Byte = (u64, u64);
+pub(crate) type Byte = (u64, u64);
 
 /// A window, and what its operations did until now.
 struct OpenWindow {
@@ -328,25 +328,30 @@ impl OpenWindow {
     }
 }
 
-/// The bytes of the varnodes that an operation reads.
-fn bytes_read(entry: &Entry) -> Vec<Byte> {
+/// The varnodes that an operation reads.
+pub(crate) fn varnodes_read(entry: &Entry) -> impl Iterator<Item = Varnode> {
     let operation = Operation::with_number(u64::from(entry.opcode));
     let [_, input0, input1, input2] = varnodes(entry);
     let is_read = !operation.is_some_and(Operation::has_destination);
     let input0 = is_read.then_some(input0);
     let inputs = [input0, Some(input1), Some(input2)].into_iter().flatten();
-    inputs.flat_map(|input| bytes_of(&input)).collect()
+    inputs.filter(|input| input.size > 0)
 }
 
-/// The bytes of a varnode. A constant has none, and neither has an absent one.
-fn bytes_of(varnode: &Varnode) -> impl Iterator<Item = Byte> {
+/// The bytes of the varnodes that an operation reads.
+pub(crate) fn bytes_read(entry: &Entry) -> Vec<Byte> {
+    varnodes_read(entry).flat_map(|input| bytes_of(&input)).collect()
+}
+
+/// The bytes of a varnode. A constant has none.
+pub(crate) fn bytes_of(varnode: &Varnode) -> impl Iterator<Item = Byte> {
     let Varnode { space, offset, size } = *varnode;
     let size = if space == CONSTANT { 0 } else { size };
     (0..size).map(move |byte| (space, offset + byte))
 }
 
 /// Whether one of the bytes is a byte of a varnode.
-fn any_within<'a>(bytes: impl IntoIterator<Item = &'a Byte>, varnode: &Varnode) -> bool {
+pub(crate) fn any_within<'a>(bytes: impl IntoIterator<Item = &'a Byte>, varnode: &Varnode) -> bool {
     let Varnode { space, offset, size } = *varnode;
     bytes.into_iter().any(|byte| byte.0 == space && (offset..offset + size).contains(&byte.1))
 }

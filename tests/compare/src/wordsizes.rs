@@ -6,8 +6,9 @@ use reference::arithmetic::{fits, modulus};
 use reference::bytes::ByteOrder;
 use reference::fault::{BOUNDS, LEAK};
 use reference::list::{varnode, Entry, WORDS_PER_OPERATION};
-use reference::memory::value_of;
+use reference::memory::{value_of, Spaces};
 use reference::opcodes::Opcode;
+use reference::run::Program;
 use reference::varnode::{Varnode, Wordsizes, CONSTANT};
 use reference::verdict::Settings;
 
@@ -61,15 +62,17 @@ impl Accesses {
     /// Counts what a run did, by what it left behind. Gives back whether that is an `Event::Run`.
     pub fn count(&mut self, after: &Case, report: &[u64; 5]) -> bool {
         let [ending, index, _, log_words, _] = *report;
+        let Case { call, state } = after;
+        let access_at = |index| Access::at(&call.program, &state.memory, index as usize);
         let mut wordsizes = Vec::new();
-        for word in &after.state.log[..log_words as usize] {
+        for word in &state.log[..log_words as usize] {
             let (index, byte_offset) = (word >> 32, word % (1 << 32));
-            let Some(access) = Access::at(after, index) else { continue };
+            let Some(access) = access_at(index) else { continue };
             self.count_executed(&access, byte_offset);
             wordsizes.push(access.wordsize);
         }
         // LEAK stops other operations too.
-        let stopped = [BOUNDS, LEAK].contains(&ending).then(|| Access::at(after, index)).flatten();
+        let stopped = [BOUNDS, LEAK].contains(&ending).then(|| access_at(index)).flatten();
         match stopped.filter(|access| access.wordsize != 1) {
             Some(_) if ending == LEAK => self.add(Event::Leak),
             Some(access) => {
@@ -113,9 +116,7 @@ impl Accesses {
 
     fn count_beyond(&mut self, access: &Access, after: &Case) {
         // A stopped operation writes nothing, so its pointer is what it was.
-        let order = ByteOrder::with_number(after.call.program.settings.order);
-        let order = order.expect("a run with good settings");
-        let pointer = u128::from(value_of(order, &after.state.memory, &access.pointer));
+        let pointer = access.pointer_value(&after.call.program.settings, &after.state.memory);
         let wordsize = u128::from(access.wordsize);
         let product = pointer * wordsize;
         if pointer > 0 && access.is_in_bounds(product - wordsize) {
@@ -137,8 +138,8 @@ impl Accesses {
 }
 
 /// A LOAD or a STORE of a well-formed list, and what BOUNDS depends on besides its pointer's value.
-struct Access {
-    opcode: Opcode,
+pub(crate) struct Access {
+    pub(crate) opcode: Opcode,
     pointer: Varnode,
     space: u64,
     size: u64,
@@ -148,9 +149,8 @@ struct Access {
 
 impl Access {
     /// The access at an index, if the operation there is one.
-    fn at(case: &Case, index: u64) -> Option<Access> {
-        let program = &case.call.program;
-        let entry = entry_at(&program.list, index as usize);
+    pub(crate) fn at(program: &Program, memory: &Spaces, index: usize) -> Option<Access> {
+        let entry = entry_at(&program.list, index);
         let opcode = access_opcode(&entry)?;
         let [output, input0, pointer, input2] = varnodes(&entry);
         let space = input0.offset;
@@ -160,8 +160,20 @@ impl Access {
             space,
             size: if opcode == Opcode::Load { output.size } else { input2.size },
             wordsize: program.settings.wordsizes.of(space)?,
-            len: case.state.memory.lengths().of(space)?,
+            len: memory.lengths().of(space)?,
         })
+    }
+
+    fn pointer_value(&self, settings: &Settings, memory: &Spaces) -> u128 {
+        let order = ByteOrder::with_number(settings.order).expect("a run with good settings");
+        u128::from(value_of(order, memory, &self.pointer))
+    }
+
+    /// The bytes that are accessed, in bounds.
+    pub(crate) fn place(&self, settings: &Settings, memory: &Spaces) -> Varnode {
+        let product = self.pointer_value(settings, memory) * u128::from(self.wordsize);
+        let offset = u64::try_from(product).expect("an access in bounds");
+        Varnode { space: self.space, offset, size: self.size }
     }
 
     /// Whether all bytes from a byte offset on would be in the space.
@@ -180,7 +192,7 @@ pub(crate) fn access_opcode(entry: &Entry) -> Option<Opcode> {
 }
 
 /// The varnodes of an entry, absent ones too.
-pub(crate) fn varnodes(entry: &Entry) -> [Varnode; PLACES.end] {
+pub fn varnodes(entry: &Entry) -> [Varnode; PLACES.end] {
     from_fn(|place| varnode(entry.descriptors[place], entry.offsets[place]))
 }
 
@@ -212,8 +224,8 @@ mod tests {
     use super::*;
     use reference::answers::RunCall;
     use reference::machine::State;
-    use reference::memory::{Spaces, SECRET};
-    use reference::run::{run, Program};
+    use reference::memory::SECRET;
+    use reference::run::run;
     use reference::varnode::{RAM, REGISTER, UNIQUE};
 
     /// LOAD of 2 bytes from ram of 8 bytes with wordsize 3, with this varnode as its pointer.

@@ -7,16 +7,14 @@ use compare::divisions::{Divisions, Event, Secret, DIVISIONS};
 use compare::inputs::{largest_value, GOOD_ORDERS, SIZES};
 use compare::programs::Programs;
 use compare::runs::{check_run, Case, Job};
-use compare::speculations::{check_speculation, Speculation};
-use reference::answers::{LentWords, RunCall};
+use compare::single::{case_of, check_single};
+use reference::answers::LentWords;
 use reference::bytes::{write, ByteOrder};
 use reference::fault::{LEAK, LEAK_AHEAD, ZERO};
-use reference::list::{list_of, Entry};
-use reference::machine::State;
+use reference::list::Entry;
 use reference::memory::{Spaces, PUBLIC, SECRET};
 use reference::opcodes::{Opcode, INTEGER_OPERATIONS};
-use reference::run::Program;
-use reference::speculative::Window;
+use reference::run::Observed;
 use reference::varnode::{Lengths, Varnode, Wordsizes, CONSTANT, RAM, REGISTER, UNIQUE};
 use reference::verdict::{Settings, END};
 
@@ -58,7 +56,7 @@ fn random_programs() {
     for (_, random) in campaign.by_ref() {
         let Case { call, mut state } = Programs::new(random).division_case();
         let mut divided = false;
-        let observer = |opcode| divided |= divisions.count_executed(opcode);
+        let observer = |observed: Observed| divided |= divisions.count_executed(observed.opcode);
         let report = check_run(Job::Run, &call, &mut state, LentWords::EXACT, observer);
         let report = report.expect("a report of five words");
         tally.count(report[0]);
@@ -87,9 +85,6 @@ struct Division {
     secret: [Option<Varnode>; 2],
 }
 
-/// A word of log and journal as it is lent.
-const LENT_WORD: u64 = 7;
-
 impl Division {
     /// The same with these secret bytes and another divisor.
     fn with(self, secret: [Option<Varnode>; 2], divisor: u64) -> Division {
@@ -104,8 +99,8 @@ impl Division {
         self.values[1] == 0
     }
 
-    /// The labelled case of a list. Bytes that are of no operand are secret.
-    fn case(&self, entries: &[Entry]) -> Case {
+    /// The labelled case. Bytes that are of no operand are secret.
+    fn case(&self) -> Case {
         let settings = Settings { order: self.order, address_size: 8, wordsizes: Wordsizes::ONE };
         let lengths = Lengths { unique: 26, register: 14, ram: 12 };
         let mut memory = Spaces::of_lengths(&lengths);
@@ -121,9 +116,7 @@ impl Division {
         for byte in self.secret.iter().flatten() {
             labels.part_mut(byte).fill(SECRET);
         }
-        let program = Program { settings, list: list_of(entries) };
-        let call = RunCall { program, start: 0, budget: 9 };
-        Case { call, state: State { memory, labels: Some(labels), log: vec![LENT_WORD; 2] } }
+        case_of(settings, &[self.entry()], memory, labels)
     }
 
     fn entry(&self) -> Entry {
@@ -134,41 +127,12 @@ impl Division {
 
     /// Compares the division as run and as step, in a window, and left out with a window of 0.
     fn check(&self, tally: &mut Tally) {
-        let alone = self.case(&[self.entry()]);
         let report = match (self.leaks(), self.by_zero()) {
             (true, _) => [LEAK, 0, 0, 0, 0],
             (false, true) => [ZERO, 0, 0, 0, 0],
             (false, false) => [END, 1, 1, 0, 0],
         };
-        for job in [Job::Run, Job::Step] {
-            let mut after = alone.clone();
-            let found = check_run(job, &after.call, &mut after.state, LentWords::EXACT, |_| ());
-            assert_eq!(found, Some(report), "{job:?} of {self:x?}");
-            let is_stopped = report[0] != END;
-            assert!(!is_stopped || after.state == alone.state, "{job:?} of {self:x?} wrote");
-            tally.count(report[0]);
-        }
-        self.check_windows(tally);
-    }
-
-    /// Compares it behind a CBRANCH that leaves it out.
-    fn check_windows(&self, tally: &mut Tally) {
-        let past_it = Varnode { space: CONSTANT, offset: 2, size: 1 };
-        let taken = Varnode { space: CONSTANT, offset: 1, size: 1 };
-        let cbranch = Entry::new(Opcode::Cbranch as u8, [None, Some(past_it), Some(taken), None]);
-        let case = self.case(&[cbranch, self.entry()]);
-        for operations in [0, 1] {
-            let window = Window { operations, journal: vec![LENT_WORD; 4] };
-            let mut after = Speculation { case: case.clone(), window };
-            let found = check_speculation(&mut after, LentWords::EXACT, |_| ());
-            let leaks_ahead = self.leaks() && operations == 1;
-            let report = if leaks_ahead { [LEAK_AHEAD, 0, 0, 1, 0] } else { [END, 2, 1, 1, 0] };
-            assert_eq!(found, Some(report), "a window of {operations} at {self:x?}");
-            let State { memory, labels, .. } = after.case.state;
-            let is_undone = memory == case.state.memory && labels == case.state.labels;
-            assert!(is_undone, "a window of {operations} at {self:x?} left something");
-            tally.count(report[0]);
-        }
+        check_single(&self.case(), report, tally);
     }
 }
 
@@ -264,7 +228,7 @@ fn no_other_integer_operation_leaks() {
     let mut executed = Tally::default();
     for (_, random) in campaign.by_ref() {
         let Case { call, mut state } = Programs::new(random).secret_operands_case();
-        let count = |opcode| executed.count(opcode as u64);
+        let count = |observed: Observed| executed.count(observed.opcode as u64);
         let report = check_run(Job::Run, &call, &mut state, LentWords::EXACT, count);
         assert_eq!(report, Some([END, 1, 1, 0, 0]), "{}", Case { call, state });
     }

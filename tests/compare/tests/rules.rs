@@ -5,9 +5,9 @@ use compare::inputs::{
     first_value_too_large, largest_value, BAD_WORDSIZES, GOOD_AND_BAD_ORDERS, GOOD_AND_BAD_SIZES,
     LARGE_OFFSETS, SIZES,
 };
-use compare::lists::{good_entry, plain_entry, PLACES};
+use compare::lists::{good_entry, plain_entry, with_varnode, PLACES};
 use reference::answers::{LentWords, VerdictCall};
-use reference::list::{descriptor, list_of, Entry};
+use reference::list::{list_of, Entry};
 use reference::opcodes::{Operation, Sizes, OPERATIONS};
 use reference::varnode::{Lengths, Varnode, Wordsizes, CONSTANT, RAM, REGISTER, UNIQUE};
 use reference::verdict::Settings;
@@ -42,13 +42,6 @@ fn ending_between(entry: Entry) -> u64 {
 /// The operation with this name.
 fn named(name: &str) -> &'static Operation {
     OPERATIONS.iter().find(|operation| operation.name == name).expect("a name of an operation")
-}
-
-/// The same operation with another varnode at a place.
-fn with_varnode(mut entry: Entry, place: usize, varnode: Varnode) -> Entry {
-    entry.descriptors[place] = descriptor(Some(varnode));
-    entry.offsets[place] = varnode.offset;
-    entry
 }
 
 #[test]

@@ -2,7 +2,6 @@
 //! secret bytes that must not show, runs that are resumed, and known results.
 
 use std::fmt;
-use std::iter::zip;
 
 use compare::agreement::Tally;
 use compare::campaign::Campaign;
@@ -10,13 +9,13 @@ use compare::divisions::{self, Divisions, Secret, DIVISIONS};
 use compare::parts::run_in_parts;
 use compare::programs::Programs;
 use compare::runs::{check_run, interpreter_report, Case, Job};
-use compare::secrets::{assert_secrets_do_not_show, labels, with_other_secrets};
+use compare::secrets::{check_pair, memory_pair};
 use compare::wordsizes::{only_a_wordsize_is_refused, Accesses, Event};
 use reference::answers::{LentWords, RunCall};
 use reference::machine::State;
-use reference::memory::{Spaces, SECRET};
+use reference::memory::Spaces;
 use reference::opcodes::OPERATIONS;
-use reference::run::{Program, BUDGET};
+use reference::run::{Observed, Program, BUDGET};
 use reference::varnode::Wordsizes;
 use reference::verdict::Settings;
 
@@ -100,7 +99,7 @@ fn random_runs(name: &str, form: fn(&Case) -> Case, endings: &[u64]) {
     for (_, random) in campaign.by_ref() {
         let mut programs = Programs::new(random);
         let Case { call, mut state } = form(&programs.case());
-        let count = |opcode| executed.count(opcode as u64);
+        let count = |observed: Observed| executed.count(observed.opcode as u64);
         let lent = programs.lent_words();
         let Some([ending, ..]) = check_run(Job::Run, &call, &mut state, lent, count) else {
             refused += 1;
@@ -179,24 +178,6 @@ fn random_steps() {
     }
 }
 
-/// Whether each byte of the spaces has one label, public or secret.
-fn labels_hold(memory: &Spaces, labels: &Spaces) -> bool {
-    let are_labels = |space: &Vec<u8>| space.iter().all(|&label| label <= SECRET);
-    memory.lengths() == labels.lengths() && labels.all().into_iter().all(are_labels)
-}
-
-/// A case that `draw` makes and the same with other secret bytes, drawn until the two differ.
-fn memory_pair(programs: &mut Programs, draw: fn(&mut Programs) -> Case) -> [Case; 2] {
-    loop {
-        let one = draw(programs);
-        let state = with_other_secrets(&one.state, programs.random());
-        let other = Case { state, ..one.clone() };
-        if one.state.memory != other.state.memory {
-            return [one, other];
-        }
-    }
-}
-
 #[test]
 fn secret_bytes_do_not_show() {
     const SEED: u64 = 0x5eed_0043;
@@ -253,7 +234,7 @@ fn secret_bytes_do_not_show_in_divisions() {
         tally.count(report[0]);
         let mut divided = divisions.count_stopped(&one, &report);
         let Case { call, mut state } = pair[0].clone();
-        let observer = |opcode| divided |= divisions.count_executed(opcode);
+        let observer = |observed: Observed| divided |= divisions.count_executed(observed.opcode);
         check_run(Job::Run, &call, &mut state, LentWords::EXACT, observer);
         divisions.add_those_that_came([(divided, divisions::Event::Run)]);
         check_divided(&pair);
@@ -287,33 +268,6 @@ fn check_divided(pair: &[Case; 2]) {
             );
         }
     }
-}
-
-/// Runs a case and the same with other secret bytes, and fails if a secret byte shows, or if the plain
-/// run does otherwise. Gives back both as they were left, and the report.
-fn check_pair(before: &[Case; 2]) -> ([Case; 2], [u64; 5]) {
-    let mut after = before.clone();
-    let [report, other_report] = after.each_mut().map(|case| interpreter_report(Job::Run, case));
-    let [one, other] = &after;
-    assert_secrets_do_not_show(before, [(report, &one.state), (other_report, &other.state)]);
-    for (before, after) in zip(before, &after) {
-        assert_plain_run_is_the_same(before, after, &report);
-    }
-    (after, report)
-}
-
-/// Fails unless the plain run does what the labelled run did, where that did not end with LEAK and
-/// did not refuse its labels.
-fn assert_plain_run_is_the_same(before: &Case, after: &Case, report: &[u64; 5]) {
-    if report[0] == LEAK || !labels_hold(&before.state.memory, labels(&before.state)) {
-        return;
-    }
-    let mut plain = before.plain();
-    let plain_report = interpreter_report(Job::Run, &mut plain);
-    assert_eq!(plain_report, *report, "the reports, plain and labelled, on\n{before}");
-    assert_eq!(plain.state.log, after.state.log, "the logs, plain and labelled, after\n{before}");
-    let agrees = plain.state.memory == after.state.memory;
-    assert!(agrees, "other memory, plain and labelled, after\n{before}");
 }
 
 /// Compares a run in parts with one run. Gives back whether it stopped and was resumed.

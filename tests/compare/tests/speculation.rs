@@ -273,10 +273,10 @@ fn assert_journal(before: &Speculation, after: &Speculation, ending: u64) {
 /// the two memories differ.
 fn memory_pair(programs: &mut Programs) -> [Speculation; 2] {
     loop {
-        let one = if programs.random().once_in(10) {
-            programs.speculation()
-        } else {
-            programs.well_formed_speculation()
+        let one = match programs.random().below(10) {
+            0 => programs.speculation(),
+            1..=3 => programs.moving_speculation(),
+            _ => programs.well_formed_speculation(),
         };
         let mut other = one.clone();
         other.case.state = with_other_secrets(&one.case.state, programs.random());

@@ -6,8 +6,8 @@ use crate::arithmetic::{fits, value};
 use crate::bytes::{read, write, ByteOrder};
 use crate::fault;
 use crate::machine::State;
-use crate::opcodes::{Opcode, Operation, Sizes, ANY_ADDRESS_SIZE};
-use crate::run::{observed_run, Program};
+use crate::opcodes::{Operation, Sizes, ANY_ADDRESS_SIZE};
+use crate::run::{observed_run, Observed, Program};
 use crate::speculative::{speculative_run, Event, Window};
 use crate::varnode::{is_operand_size, show, Lengths, Varnode};
 use crate::verdict::{verdict, Settings};
@@ -133,13 +133,13 @@ pub fn verdict_answer(call: &VerdictCall, lent: LentWords) -> Result<[u64; 5], u
     Ok(verdict(&call.settings, &call.lengths, &call.list).numbers())
 }
 
-/// The report of a run, labelled if the state has labels, for a caller who lends so many words. Each
-/// operation executed is named to the observer. A refused call leaves the state as it is.
+/// The report of a run, labelled if the state has labels, for a caller who lends so many words. The
+/// observer is told of each operation executed. A refused call leaves the state as it is.
 pub fn run_answer(
     call: &RunCall,
     state: &mut State,
     lent: LentWords,
-    observer: impl FnMut(Opcode),
+    observer: impl FnMut(Observed),
 ) -> Result<[u64; 5], u64> {
     lent.check()?;
     Ok(observed_run(&call.program, call.start, call.budget, state, observer).numbers())

@@ -17,6 +17,15 @@ impl ByteOrder {
         }
     }
 
+    /// What there is for each byte of a value, turned from how the bytes stand to the least significant one
+    /// first, or back.
+    pub fn turned(self, mut bytes: Vec<u8>) -> Vec<u8> {
+        if self == ByteOrder::Big {
+            bytes.reverse();
+        }
+        bytes
+    }
+
     /// What the byte at `index` of a value of `size` bytes counts for: a power of 256.
     fn weight(self, index: usize, size: usize) -> u128 {
         let less_significant_bytes = match self {
@@ -79,6 +88,12 @@ mod tests {
         let bytes = [0x81, 0x02, 0x03, 0x04, 0x05, 0x06, 0x07, 0x98];
         assert_eq!(read(Little, &bytes), 0x9807060504030281);
         assert_eq!(read(Big, &bytes), 0x8102030405060798);
+    }
+
+    #[test]
+    fn bytes_are_turned_to_the_least_significant_first() {
+        assert_eq!(Little.turned(written(Little, 0x123456, 3)), [0x56, 0x34, 0x12]);
+        assert_eq!(Big.turned(written(Big, 0x123456, 3)), [0x56, 0x34, 0x12]);
     }
 
     #[test]

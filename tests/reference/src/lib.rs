@@ -10,6 +10,7 @@ pub mod arithmetic;
 pub mod bytes;
 pub mod case;
 pub mod fault;
+pub mod labels;
 pub mod list;
 pub mod machine;
 pub mod memory;

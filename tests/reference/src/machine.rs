@@ -4,8 +4,9 @@
 use crate::arithmetic::value;
 use crate::bytes::{self, ByteOrder};
 use crate::fault;
+use crate::labels::{int_sext, int_zext, labels_of, piece, set_labels, subpiece, whole};
 use crate::list::{Entry, WORDS_PER_OPERATION};
-use crate::memory::{is_secret, value_of, Spaces, PUBLIC, SECRET};
+use crate::memory::{is_secret, value_of, Spaces};
 use crate::opcodes::{Opcode, Operation};
 use crate::varnode::{Varnode, Wordsizes, CONSTANT};
 use crate::verdict::{decoded, Varnodes};
@@ -180,35 +181,41 @@ impl<'a> Machine<'a> {
     /// What the operation writes, if it writes anything.
     fn write_of(&self, instruction: &Instruction) -> Option<Write> {
         let varnodes = &instruction.varnodes;
-        let input0 = varnodes.input0;
-        match instruction.operation.opcode {
-            Opcode::Copy => Some(self.write(instruction.output(), self.value(&input0), &[input0])),
-            Opcode::Load => {
-                let loaded = self.pointed_to(instruction)?;
-                let sources = [instruction.input1(), loaded];
-                Some(self.write(instruction.output(), self.value(&loaded), &sources))
-            }
-            Opcode::Store => {
-                let target = self.pointed_to(instruction)?;
-                let input2 = instruction.input2();
-                Some(self.write(target, self.value(&input2), &[input2]))
-            }
+        let (target, value) = match instruction.operation.opcode {
+            Opcode::Copy => (instruction.output(), self.value(&varnodes.input0)),
+            Opcode::Load => (instruction.output(), self.value(&self.pointed_to(instruction)?)),
+            Opcode::Store => (self.pointed_to(instruction)?, self.value(&instruction.input2())),
             opcode if instruction.operation.is_integer() => {
-                let a = self.value(&input0);
+                let a = self.value(&varnodes.input0);
                 let b = varnodes.input1.map_or(0, |input1| self.value(&input1));
-                let result = value(opcode, varnodes.sizes(), a, b);
-                let sources = [input0, varnodes.input1.unwrap_or(input0)];
-                Some(self.write(instruction.output(), result, &sources))
+                (instruction.output(), value(opcode, varnodes.sizes(), a, b))
             }
-            _ => None,
-        }
+            _ => return None,
+        };
+        let labels = self.state.labels.as_ref();
+        let labels = labels.map(|labels| self.written_labels(instruction, target.size, labels));
+        Some(Write { target, value, labels })
     }
 
-    /// A write whose bytes all become secret if any byte of its sources is, else public.
-    fn write(&self, target: Varnode, value: u64, sources: &[Varnode]) -> Write {
-        let is_secret = |labels| sources.iter().any(|source| is_secret(labels, source));
-        let label = if self.state.labels.as_ref().is_some_and(is_secret) { SECRET } else { PUBLIC };
-        Write { target, value, label }
+    /// The labels of the `size` bytes that the operation writes, from the least significant byte on. Where
+    /// bytes are moved, labels go with them; else the whole output is secret if anything read is.
+    fn written_labels(&self, instruction: &Instruction, size: u64, labels: &Spaces) -> Vec<u8> {
+        let of = |varnode: &Varnode| labels_of(self.order, labels, varnode);
+        let Varnodes { input0, input1, .. } = &instruction.varnodes;
+        match instruction.operation.opcode {
+            Opcode::Copy => of(input0),
+            // The pointer is public: a secret one has leaked before.
+            Opcode::Load => of(&self.pointed_to(instruction).expect("a LOAD in bounds")),
+            Opcode::Store => of(&instruction.input2()),
+            Opcode::Piece => piece(of(input0), of(&instruction.input1())),
+            Opcode::Subpiece => subpiece(of(input0), self.value(&instruction.input1()), size),
+            Opcode::IntZext => int_zext(of(input0), size),
+            Opcode::IntSext => int_sext(of(input0), size),
+            _ => {
+                let mut read = [Some(input0), input1.as_ref()].into_iter().flatten();
+                whole(read.any(|varnode| is_secret(labels, varnode)), size)
+            }
+        }
     }
 
     fn next(&self, instruction: &Instruction, index: usize) -> Next {
@@ -230,21 +237,23 @@ impl<'a> Machine<'a> {
     }
 
     fn write_target(&mut self, write: Option<Write>) {
-        let Some(Write { target, value, label }) = write else {
+        let Some(Write { target, value, labels: written }) = write else {
             return;
         };
-        bytes::write(self.order, value, self.state.memory.part_mut(&target));
-        if let Some(labels) = &mut self.state.labels {
-            labels.part_mut(&target).fill(label);
+        let State { memory, labels, .. } = &mut self.state;
+        bytes::write(self.order, value, memory.part_mut(&target));
+        if let Some((labels, written)) = labels.as_mut().zip(written) {
+            set_labels(self.order, written, labels, &target);
         }
     }
 }
 
-/// What an operation writes: a value, and one label for all its bytes.
+/// What an operation writes: a value, and in a labelled run a label for each of its bytes, from the least
+/// significant one on.
 struct Write {
     target: Varnode,
     value: u64,
-    label: u8,
+    labels: Option<Vec<u8>>,
 }
 
 /// A well-formed operation and its varnodes.

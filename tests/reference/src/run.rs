@@ -6,6 +6,7 @@ use crate::list::WORDS_PER_OPERATION;
 use crate::machine::{Executed, Machine, Next, State};
 use crate::memory::{Spaces, PUBLIC, SECRET};
 use crate::opcodes::Opcode;
+use crate::varnode::Varnode;
 use crate::verdict::{lengths_hold, settings_hold, verdict, Report, Settings, END};
 
 /// The ending of a run by a destination outside the list.
@@ -45,30 +46,41 @@ pub fn step(program: &Program, start: u64, state: &mut State) -> Report {
     run(program, start, 1, state)
 }
 
-/// A run that names each operation executed to its observer.
+/// What a run tells its observer: this operation was executed, and left this state.
+#[derive(Clone, Copy, Debug)]
+pub struct Observed<'a> {
+    pub index: usize,
+    pub opcode: Opcode,
+    /// The bytes that it wrote, if it wrote any.
+    pub written: Option<Varnode>,
+    pub state: &'a State,
+}
+
+/// A run that tells its observer of each operation executed.
 pub fn observed_run(
     program: &Program,
     start: u64,
     budget: u32,
     state: &mut State,
-    mut observer: impl FnMut(Opcode),
+    mut observer: impl FnMut(Observed),
 ) -> Report {
     if let Some(report) = refusal(program, start, state) {
         return report;
     }
-    run_machine(&mut program.machine(state), start as usize, budget, |machine, index| {
-        observer(machine.opcode(index));
+    run_machine(&mut program.machine(state), start as usize, budget, |machine, index, written| {
+        let opcode = machine.opcode(index);
+        observer(Observed { index, opcode, written, state: machine.state() });
         Ok(())
     })
 }
 
-/// Runs a machine from an index on. Each operation has `after` done after it, before it is counted;
-/// an ending that `after` gives ends the run at that operation.
+/// Runs a machine from an index on. Each operation has `after` done after it, before it is counted, by its
+/// index and what it wrote; an ending that `after` gives ends the run at that operation.
 pub(crate) fn run_machine(
     machine: &mut Machine,
     start: usize,
     budget: u32,
-    mut after: impl FnMut(&mut Machine, usize) -> Result<(), u64>,
+    mut after: impl FnMut(&mut Machine, usize, Option<Varnode>) -> Result<(), u64>,
 ) -> Report {
     let mut index = start;
     let mut executed = 0;
@@ -79,11 +91,11 @@ pub(crate) fn run_machine(
         if executed == budget {
             break (BUDGET, 0);
         }
-        let next = match machine.execute(index) {
-            Ok(Executed { next, .. }) => next,
+        let Executed { next, written } = match machine.execute(index) {
+            Ok(executed) => executed,
             Err(ending) => break (ending, 0),
         };
-        if let Err(ending) = after(machine, index) {
+        if let Err(ending) = after(machine, index, written) {
             break (ending, 0);
         }
         executed += 1;
@@ -462,13 +474,26 @@ mod tests {
         assert_eq!([secret(LOAD), secret(STORE)], [fault::LEAK; 2]);
     }
 
-    /// The labels of unique after one operation on labels of unique.
-    fn labels_after(operation: [u64; 5], unique: [u8; 4]) -> Vec<u8> {
-        let mut state = labelled(state(&[1; 4], &[0; 8], &[0; 4]));
+    /// The labels of unique after one operation on labels of unique, in a byte order. Of ram, the last byte
+    /// is secret.
+    fn labels_in<const BYTES: usize>(
+        order: u64,
+        operation: [u64; 5],
+        unique: [u8; BYTES],
+    ) -> [u8; BYTES] {
+        let mut state = labelled(state(&[1; BYTES], &[0; 8], &[0; 4]));
         labels(&mut state).unique = unique.to_vec();
         labels(&mut state).ram = vec![0, 0, 0, 1];
-        assert_eq!(run(&program(LITTLE, &[operation]), 0, 9, &mut state).ending, END);
-        labels(&mut state).unique.clone()
+        assert_eq!(run(&program(order, &[operation]), 0, 9, &mut state).ending, END);
+        let unique = labels(&mut state).unique.clone();
+        unique.try_into().expect("as many labels as before")
+    }
+
+    /// The same where both byte orders leave the same labels.
+    fn labels_after<const BYTES: usize>(operation: [u64; 5], unique: [u8; BYTES]) -> [u8; BYTES] {
+        let [little, big] = [LITTLE, BIG].map(|order| labels_in(order, operation, unique));
+        assert_eq!(little, big);
+        little
     }
 
     #[test]
@@ -478,25 +503,146 @@ mod tests {
         assert_eq!(labels_after(ADDITION, [0, 1, 0, 0]), [0, 1, 1, 0]);
         // Of the integer operations only divisions leak.
         assert_eq!(labels_after(MULTIPLICATION, [1, 1, 0, 0]), [1, 1, 1, 0]);
-        assert_eq!(labels_after(OVERLAPPING_COPY, [1, 0, 0, 0]), [1, 1, 1, 0]);
+        // INT_ADD of bytes 0 and 1 and of bytes 2 and 3, into bytes 4 and 5.
+        let addition = [0x22_22_22_15, 4, 0, 2, 0];
+        assert_eq!(labels_after(addition, [0, 0, 0, 0, 1, 1]), [0, 0, 0, 0, 0, 0]);
+        assert_eq!(labels_after(addition, [1, 0, 0, 0, 0, 0]), [1, 0, 0, 0, 1, 1]);
+        assert_eq!(labels_after(addition, [0, 0, 0, 1, 0, 0]), [0, 0, 0, 1, 1, 1]);
+        // INT_LEFT by 8, and INT_AND with ff, of bytes 0 and 1: they move no byte by the rule.
+        for operation in [[0x11_22_22_1f, 2, 0, 8, 0], [0x12_22_22_1d, 2, 0, 0xff, 0]] {
+            assert_eq!(labels_after(operation, [0, 1, 0, 0]), [0, 1, 1, 1]);
+            assert_eq!(labels_after(operation, [1, 0, 0, 0]), [1, 0, 1, 1]);
+        }
+        // POPCOUNT of bytes 0 and 1: the high byte of the count is 0, and secret.
+        assert_eq!(labels_after([0x22_22_0c, 2, 0, 0, 0], [0, 1, 0, 0]), [0, 1, 1, 1]);
+    }
+
+    #[test]
+    fn a_copy_and_a_load_take_the_label_of_each_byte() {
+        assert_eq!(labels_after(OVERLAPPING_COPY, [1, 0, 0, 0]), [1, 1, 0, 0]);
+        assert_eq!(labels_after(OVERLAPPING_COPY, [0, 1, 0, 0]), [0, 0, 1, 0]);
         assert_eq!(labels_after(OVERLAPPING_COPY, [0, 0, 1, 0]), [0, 0, 0, 0]);
-        // Of the four bytes loaded, the last is secret.
-        assert_eq!(labels_after(LOAD, [0, 0, 0, 0]), [1, 1, 1, 1]);
+        // COPY of a constant of 3 bytes.
+        assert_eq!(labels_after([0x13_23_01, 1, 5, 0, 0], [1, 1, 1, 1]), [1, 0, 0, 0]);
+        assert_eq!(labels_after(LOAD, [1, 1, 1, 1]), [0, 0, 0, 1]);
         let first_two_bytes = [0x38_11_22_02, 0, 4, 0, 0];
         assert_eq!(labels_after(first_two_bytes, [1, 1, 1, 1]), [0, 0, 1, 1]);
     }
 
     #[test]
-    fn reading_9_dropped_bytes_count_as_read() {
-        // SUBPIECE of 2 bytes into 1: byte 0, then byte 1.
-        for dropped in [0, 1] {
-            let operation = [0x11_22_21_0b, 3, 0, dropped, 0];
-            assert_eq!(labels_after(operation, [0, 1, 0, 0]), [0, 1, 0, 1]);
+    fn a_piece_takes_labels_by_significance() {
+        // Byte 0 on top of bytes 1 and 2, into bytes 3 to 5.
+        let piece = [0x22_21_23_0a, 3, 0, 1, 0];
+        for (labels, little, big) in [
+            ([1, 0, 0, 1, 1, 1], [1, 0, 0, 0, 0, 1], [1, 0, 0, 1, 0, 0]),
+            ([0, 1, 0, 1, 1, 1], [0, 1, 0, 1, 0, 0], [0, 1, 0, 0, 1, 0]),
+            ([0, 0, 1, 1, 1, 1], [0, 0, 1, 0, 1, 0], [0, 0, 1, 0, 0, 1]),
+        ] {
+            assert_eq!(labels_in(LITTLE, piece, labels), little);
+            assert_eq!(labels_in(BIG, piece, labels), big);
+        }
+        // The constant 5 of 2 bytes below byte 0.
+        let above_5 = [0x12_21_23_0a, 1, 0, 5, 0];
+        assert_eq!(labels_in(LITTLE, above_5, [1, 1, 1, 1]), [1, 0, 0, 1]);
+        assert_eq!(labels_in(BIG, above_5, [1, 1, 1, 1]), [1, 1, 0, 0]);
+    }
+
+    #[test]
+    fn a_subpiece_has_no_label_of_a_dropped_byte() {
+        // Bytes 0 to 3 without the least significant one, into bytes 4 and 5.
+        let subpiece = [0x11_24_22_0b, 4, 0, 1, 0];
+        // The least significant byte is the first in little order, and the last in big.
+        assert_eq!(labels_after(subpiece, [1, 0, 0, 0, 1, 1]), [1, 0, 0, 0, 0, 0]);
+        assert_eq!(labels_after(subpiece, [0, 0, 0, 1, 1, 1]), [0, 0, 0, 1, 0, 0]);
+        assert_eq!(labels_after(subpiece, [0, 1, 0, 0, 0, 0]), [0, 1, 0, 0, 1, 0]);
+        assert_eq!(labels_after(subpiece, [0, 0, 1, 0, 0, 0]), [0, 0, 1, 0, 0, 1]);
+        assert_eq!(labels_after(subpiece, [1, 0, 1, 1, 0, 0]), [1, 0, 1, 1, 0, 1]);
+        // Byte 0 or byte 1 of 2 bytes, into byte 2.
+        for (dropped, little, big) in [(0, 0, 1), (1, 1, 0)] {
+            let subpiece = [0x11_22_21_0b, 2, 0, dropped, 0];
+            assert_eq!(labels_in(LITTLE, subpiece, [0, 1, 1]), [0, 1, little]);
+            assert_eq!(labels_in(BIG, subpiece, [0, 1, 1]), [0, 1, big]);
         }
     }
 
     #[test]
-    fn a_store_gives_its_target_the_label_of_its_data() {
+    fn reading_21_missing_high_bytes_of_a_subpiece_are_public() {
+        // Bytes 0 and 1, into bytes 2 to 4.
+        let all_secret = |order, dropped| {
+            let unique = labels_in(order, [0x11_22_23_0b, 2, 0, dropped, 0], [1; 5]);
+            [unique[2], unique[3], unique[4]]
+        };
+        for (dropped, little, big) in
+            [(0, [1, 1, 0], [0, 1, 1]), (1, [1, 0, 0], [0, 0, 1]), (2, [0; 3], [0; 3])]
+        {
+            assert_eq!(all_secret(LITTLE, dropped), little);
+            assert_eq!(all_secret(BIG, dropped), big);
+        }
+        assert_eq!(labels_after([0x18_22_23_0b, 2, 0, u64::MAX, 0], [1; 5]), [1, 1, 0, 0, 0]);
+    }
+
+    #[test]
+    fn extensions_keep_labels_by_significance_and_fill() {
+        // Bytes 0 and 1, into bytes 2 to 5.
+        let [zext, sext] = [0x13, 0x14].map(|opcode| [0x22_24_00 + opcode, 2, 0, 0, 0]);
+        let filled = |order, operation, input0: [u8; 2]| {
+            let [low, high] = input0;
+            let [_, _, output @ ..] = labels_in(order, operation, [low, high, 1, 0, 1, 0]);
+            output
+        };
+        for (input0, little, big) in [
+            ([0, 0], [0, 0, 0, 0], [0, 0, 0, 0]),
+            ([1, 0], [1, 0, 0, 0], [0, 0, 1, 0]),
+            ([0, 1], [0, 1, 0, 0], [0, 0, 0, 1]),
+            ([1, 1], [1, 1, 0, 0], [0, 0, 1, 1]),
+        ] {
+            assert_eq!(filled(LITTLE, zext, input0), little);
+            assert_eq!(filled(BIG, zext, input0), big);
+        }
+        for (input0, little, big) in [
+            ([0, 0], [0, 0, 0, 0], [0, 0, 0, 0]),
+            ([1, 0], [1, 0, 0, 0], [1, 1, 1, 0]),
+            ([0, 1], [0, 1, 1, 1], [0, 0, 0, 1]),
+            ([1, 1], [1, 1, 1, 1], [1, 1, 1, 1]),
+        ] {
+            assert_eq!(filled(LITTLE, sext, input0), little);
+            assert_eq!(filled(BIG, sext, input0), big);
+        }
+    }
+
+    #[test]
+    fn labels_are_read_before_they_are_written() {
+        // INT_ZEXT of bytes 1 and 2 into bytes 0 to 3, and INT_SEXT of them.
+        let [zext, sext] = [0x13, 0x14].map(|opcode| [0x22_24_00 + opcode, 0, 1, 0, 0]);
+        assert_eq!(labels_in(LITTLE, zext, [0, 0, 1, 1]), [0, 1, 0, 0]);
+        assert_eq!(labels_in(BIG, zext, [0, 0, 1, 1]), [0, 0, 0, 1]);
+        assert_eq!(labels_in(LITTLE, sext, [1, 0, 1, 0]), [0, 1, 1, 1]);
+        assert_eq!(labels_in(BIG, sext, [1, 0, 1, 0]), [0, 0, 0, 1]);
+        // PIECE of bytes 0 and 1, exchanged, into bytes 0 and 1: in big order they stay where they are.
+        assert_eq!(labels_in(LITTLE, [0x21_21_22_0a, 0, 0, 1, 0], [1, 0]), [0, 1]);
+        assert_eq!(labels_in(BIG, [0x21_21_22_0a, 0, 0, 1, 0], [1, 0]), [1, 0]);
+    }
+
+    #[test]
+    fn a_packed_words_neighbours_stay_public() {
+        // COPY of bytes 0 to 3 to bytes 4 to 7, and a LOAD from ram by one of them.
+        let copy = [0x24_24_01, 4, 0, 0, 0];
+        for order in [LITTLE, BIG] {
+            for place in 4..8 {
+                let mut list = program(order, &[copy, [0x21_11_21_02, 0, 4, place, 0]]);
+                list.settings.address_size = 1;
+                let mut state = labelled(state(&[1; 8], &[], &[9; 4]));
+                labels(&mut state).unique[2] = SECRET;
+                let is_secret = place == 6;
+                let report = run(&list, 0, 9, &mut state).numbers();
+                let leak = [fault::LEAK, 1, 1, 0, 0];
+                assert_eq!(report, if is_secret { leak } else { [END, 2, 2, 1, 0] });
+            }
+        }
+    }
+
+    #[test]
+    fn a_store_gives_its_target_the_labels_of_its_data() {
         for (data, target) in [(SECRET, PUBLIC), (PUBLIC, SECRET)] {
             let mut state = labelled(state(&[5; 4], &[0; 8], &[0; 4]));
             state.memory.register[0] = 2;
@@ -507,6 +653,22 @@ mod tests {
             assert_eq!(state.memory.ram, [0, 0, 5, 0]);
             assert_eq!(labels(&mut state).ram, [target, target, data, target]);
             assert_eq!(state.log, [2, 7, 7, 7]);
+        }
+        // Of 3 bytes, each has its own, and a constant's are public.
+        for (data, expected) in
+            [([1, 0, 0], [1, 1, 0, 0]), ([0, 1, 0], [1, 0, 1, 0]), ([0, 1, 1], [1, 0, 1, 1])]
+        {
+            for order in [LITTLE, BIG] {
+                let mut state = labelled(state(&[5; 3], &[], &[0; 4]));
+                labels(&mut state).unique = data.to_vec();
+                labels(&mut state).ram = vec![SECRET; 4];
+                let store = [0x23_18_11_00_03, 0, 4, 1, 0];
+                run(&program(order, &[store]), 0, 9, &mut state);
+                assert_eq!(labels(&mut state).ram, expected);
+                let store = [0x13_18_11_00_03, 0, 4, 0, 0];
+                run(&program(order, &[store]), 0, 9, &mut state);
+                assert_eq!(labels(&mut state).ram, [0, 0, 0, expected[3]]);
+            }
         }
     }
 
@@ -583,11 +745,21 @@ mod tests {
 
     #[test]
     fn the_observer_hears_of_each_operation_executed() {
-        let program = program(LITTLE, &[ADDITION, OVERLAPPING_COPY, DIVISION]);
-        let mut opcodes = Vec::new();
+        let cbranch = [0x11_11_00_05, 0, 1, 1, 0];
+        let program = program(LITTLE, &[ADDITION, OVERLAPPING_COPY, DIVISION, cbranch]);
+        let mut heard = Vec::new();
         let mut state = state(&[1, 0, 0, 0], &[], &[]);
-        let report = observed_run(&program, 0, 9, &mut state, |opcode| opcodes.push(opcode));
-        assert_eq!(report.numbers(), [END, 3, 3, 0, 0]);
-        assert_eq!(opcodes, [Opcode::IntAdd, Opcode::Copy, Opcode::IntDiv]);
+        let report = observed_run(&program, 0, 9, &mut state, |observed| {
+            let Observed { index, opcode, written, state } = observed;
+            heard.push((index, opcode, written.map(|written| written.offset), state.log[0]));
+        });
+        assert_eq!(report.numbers(), [END, 4, 4, 1, 0]);
+        let expected = [
+            (0, Opcode::IntAdd, Some(2), 7),
+            (1, Opcode::Copy, Some(1), 7),
+            (2, Opcode::IntDiv, Some(2), 7),
+            (3, Opcode::Cbranch, None, (3 << 32) + 1),
+        ];
+        assert_eq!(heard, expected);
     }
 }

@@ -75,8 +75,8 @@ pub enum Event<'a> {
     Ahead { index: usize, written: Option<Varnode>, state: &'a State },
     /// The window is over: at the operation that was stopped, or else at what would have come next.
     Closed { closing: Closing, at: Next },
-    /// This operation of the run itself was executed and counted.
-    Counted { index: usize },
+    /// This operation of the run itself was executed and counted, and left this state.
+    Counted { index: usize, written: Option<Varnode>, state: &'a State },
 }
 
 /// Runs a list from an index on. The state has labels.
@@ -93,13 +93,13 @@ pub fn speculative_run(
     }
     let journal_words = window.journal_words();
     window.journal[..journal_words].fill(0);
-    run_machine(&mut program.machine(state), start as usize, budget, |machine, index| {
+    run_machine(&mut program.machine(state), start as usize, budget, |machine, index, written| {
         // A CBRANCH writes no bytes, so what it looked at is still there.
         if let Some(other_way) = machine.other_way(index) {
             observer(Event::Opened { cbranch: index, other_way, state: machine.state() });
             run_window(machine, other_way, window.operations, &mut observer)?;
         }
-        observer(Event::Counted { index });
+        observer(Event::Counted { index, written, state: machine.state() });
         Ok(())
     })
 }
@@ -442,6 +442,16 @@ mod tests {
     }
 
     #[test]
+    fn labels_follow_the_bytes_ahead_and_are_undone() {
+        // COPY of the last two bytes of unique to bytes 2 and 3, and a LOAD by one of them.
+        let copy = [0x22_22_01, 2, SECRET_PLACE - 1, 0, 0];
+        let of_public = ([END, 3, 1, 2, 0], vec![word(0, 1), ahead(2, 6)]);
+        assert_eq!(run_of_windows(&[cbranch(3, 1), copy, load_by(2)], 64), of_public);
+        let of_secret = ([fault::LEAK_AHEAD, 0, 0, 1, 0], vec![word(0, 1)]);
+        assert_eq!(run_of_windows(&[cbranch(3, 1), copy, load_by(3)], 64), of_secret);
+    }
+
+    #[test]
     fn each_cbranch_of_the_right_way_has_a_window() {
         // Three rounds with the counter as pointer. Where a round is the last, its other way is one more.
         let list = [copy(0, 3), load_by(0), [0x11_21_21_16, 0, 0, 1, 0], cbranch_by(-2, 0)];
@@ -684,28 +694,32 @@ mod tests {
 
     #[test]
     fn the_observer_hears_of_each_window() {
-        let list = [cbranch(3, 1), copy(0, 9), load(16), cbranch(1, 0)];
+        let list = [cbranch(3, 1), copy(0, 9), load(16), cbranch(1, 0), copy(2, 8)];
         let mut heard = Vec::new();
+        let offset = |written: Option<Varnode>| written.map(|written| written.offset);
         let observer = |event: Event| {
             heard.push(match event {
                 Event::Opened { cbranch, other_way, .. } => format!("{cbranch}: {other_way:?}"),
                 Event::Ahead { index, written, state } => {
-                    let offset = written.map(|written| written.offset);
-                    format!("{index}: {offset:?}, {}", state.memory.unique[0])
+                    format!("{index}: {:?}, {:?}", offset(written), &state.memory.unique[..3])
                 }
                 Event::Closed { closing, at } => format!("{closing:?} {at:?}"),
-                Event::Counted { index } => format!("{index}"),
+                Event::Counted { index, written, state } => {
+                    format!("{index} {:?}, {:?}", offset(written), &state.memory.unique[..3])
+                }
             });
         };
         speculative_run(&program(&list), 0, 9, &mut window(9), &mut state(9), observer);
         let expected = [
             "0: Index(1)",
-            "1: Some(0), 9",
+            "1: Some(0), [9, 1, 2]",
             "Bounds Index(2)",
-            "0",
+            "0 None, [0, 1, 2]",
             "3: Index(4)",
-            "End Index(4)",
-            "3",
+            "4: Some(2), [0, 1, 8]",
+            "End Index(5)",
+            "3 None, [0, 1, 2]",
+            "4 Some(2), [0, 1, 8]",
         ];
         assert_eq!(heard, expected);
     }

@@ -1,5 +1,6 @@
 -- `run_labelled::mark_after` meets its contract.
 use mathlib.Core.Path.{refl}
+use Rattle.machine.specs.Program.{bigEndian}
 use Rattle.run_plan.proofs.Places.{in-words}
 use Rattle.run_labelled.proofs.Marking.{nowhere-found, marked, unmarked}
 use borrow.Author.Needs.{needs}
@@ -21,9 +22,9 @@ target-at-requires c κs =
     let h = entry .pre (within1 .if1 .taken) in
     in-words _ _ (h .valid) _ (h .index)
 
-becomes-secret-requires : tie.Need-becomes-secret-requires
-becomes-secret-requires c κs =
-    let within2 = c .before .before .before in
+labels-written-requires : tie.Need-labels-written-requires
+labels-written-requires c κs =
+    let within2 = c .before .before .before .before in
     let at-target-at = within2 .before .before in
     let at-logged-offset = at-target-at .before in
     let within1 = at-logged-offset .before in
@@ -34,9 +35,9 @@ becomes-secret-requires c κs =
 
 mark-requires : tie.Need-mark-requires
 mark-requires c κs =
-    let at-becomes-secret-arg3 = c .before .before .before .before in
-    let at-struct-known = at-becomes-secret-arg3 .before .before .before .before in
-    let at-target-at = at-struct-known .before in
+    let at-labels-written = c .before .before .before in
+    let within2 = at-labels-written .before .before .before .before .before in
+    let at-target-at = within2 .before .before in
     let at-logged-offset = at-target-at .before in
     let within1 = at-logged-offset .before in
     let at-slice-known = within1 .before .before .before .before in
@@ -45,15 +46,16 @@ mark-requires c κs =
     rw (at-target-at .target-at .ensures, at-logged-offset .logged-offset .ensures) (h .placed)
 
 returns : tie.Need-returns
+unfolding bigEndian
 returns c =
-    let at-slice-known4 = c .before .before .before .before in
-    let at-mark = at-slice-known4 .before .before in
-    let at-becomes-secret = at-mark .before .before .before .before in
-    let within2 = at-becomes-secret .before .before .before .before in
+    let at-mark = c .before .before .before .before .before .before in
+    let at-labels-written = at-mark .before .before .before .before in
+    let within2 = at-labels-written .before .before .before .before .before in
     let at-target-at = within2 .before .before in
     let at-logged-offset = at-target-at .before in
     let within1 = at-logged-offset .before in
-    rw (within1 .if1 .taken) (marked _ _ _ (at-logged-offset .logged-offset .ensures) _ (at-target-at .target-at .ensures) _ _ _ (at-becomes-secret .becomes-secret .ensures) (at-mark .mark .ensures))
+    rw (within1 .if1 .taken)
+    (marked _ _ _ (at-logged-offset .logged-offset .ensures) _ (at-target-at .target-at .ensures) _ _ _ _ (at-labels-written .labels-written .ensures) (at-mark .mark .ensures))
 
 returns-2 : tie.Need-returns-2
 returns-2 c =
@@ -63,7 +65,7 @@ returns-2 c =
     let at-slice-known = within1 .before .before .before .before in
     let entry = at-slice-known .before .before in
     let h = entry .pre (within1 .if1 .taken) in
-    rw (within1 .if1 .taken) (unmarked _ _ _ (at-logged-offset .logged-offset .ensures) _ (at-target-at .target-at .ensures) _ (c .if2 .left) (h .placed))
+    rw (within1 .if1 .taken) (unmarked _ _ _ (at-logged-offset .logged-offset .ensures) _ (at-target-at .target-at .ensures) _ _ (c .if2 .left) (h .placed))
 
 returns-3 : tie.Need-returns-3
 returns-3 c = rw (c .if1 .left) refl
@@ -74,7 +76,7 @@ mark-after-spec =
     (tie.spec
     logged-offset-requires
     target-at-requires
-    becomes-secret-requires
+    labels-written-requires
     mark-requires
     (λ c. search needs)
     (λ c. search needs)

@@ -15,7 +15,7 @@ impl Programs {
             match self.below(10) {
                 0 => self.add_loop(&mut draft),
                 1 => self.add_table_access(&mut draft),
-                2..=6 => self.add_guarded(&mut draft),
+                2..=6 => self.add_guarded(&mut draft, Programs::add_guarded_operation),
                 7 | 8 => self.add_branch(&mut draft),
                 _ => self.add_operation(&mut draft),
             }
@@ -40,14 +40,14 @@ impl Programs {
     }
 
     /// An empty draft for a list of `fewest` operations, or some more.
-    fn draft(&mut self, fewest: u64, more: u64) -> Draft {
+    pub(super) fn draft(&mut self, fewest: u64, more: u64) -> Draft {
         let settings = self.lists.settings();
         let lengths = self.lengths();
         Draft::new(settings, lengths, fewest + self.below(more))
     }
 
     /// The case of a draft, which mostly starts at the first operation.
-    fn finished_from_the_first(&mut self, draft: Draft) -> Case {
+    pub(super) fn finished_from_the_first(&mut self, draft: Draft) -> Case {
         let mut case = self.finished(draft);
         if !self.once_in(16) {
             case.call.start = 0;
@@ -55,8 +55,8 @@ impl Programs {
         case
     }
 
-    /// Adds a CBRANCH and operations behind it that its right way mostly leaves out.
-    fn add_guarded(&mut self, draft: &mut Draft) {
+    /// Adds a CBRANCH and operations behind it, each added by `add`, that its right way mostly leaves out.
+    pub(super) fn add_guarded(&mut self, draft: &mut Draft, add: fn(&mut Programs, &mut Draft)) {
         let operations = 1 + self.below(5);
         let is_taken = !self.once_in(5);
         let condition = self.condition(is_taken, draft);
@@ -64,7 +64,7 @@ impl Programs {
         let target = if self.once_in(8) { draft.frame.count } else { past_them };
         self.add_cbranch(target, condition, draft);
         for _ in 0..operations {
-            self.add_guarded_operation(draft);
+            add(self, draft);
         }
     }
 
@@ -121,7 +121,7 @@ impl Programs {
     }
 
     /// Adds an operation if there is one, or else any.
-    fn add_or_any(&mut self, entry: Option<Entry>, draft: &mut Draft) {
+    pub(super) fn add_or_any(&mut self, entry: Option<Entry>, draft: &mut Draft) {
         match entry {
             Some(entry) => draft.entries.push(entry),
             None => self.add_operation(draft),
@@ -145,7 +145,7 @@ impl Programs {
     }
 
     /// A pointer in bounds for a LOAD or a STORE, if there is one.
-    fn pointer_in_bounds(&mut self, access: &Entry, draft: &Draft) -> Option<u64> {
+    pub(super) fn pointer_in_bounds(&mut self, access: &Entry, draft: &Draft) -> Option<u64> {
         let len = draft.frame.lengths.of(access.offsets[INPUT0])?;
         let last = len.checked_sub(accessed_size(access))? / draft.wordsize(access);
         Some(self.below(1 + last.min(largest_value(draft.frame.address_size))))
@@ -168,7 +168,7 @@ impl Programs {
 
     /// A place in memory that one of the last operations writes, or has as its input1 (as a CBRANCH has its
     /// condition), or once in a while any.
-    fn used_place(&mut self, draft: &Draft) -> Option<Varnode> {
+    pub(super) fn used_place(&mut self, draft: &Draft) -> Option<Varnode> {
         let place = self.pick(&[OUTPUT, OUTPUT, INPUT1]);
         let last = draft.entries.iter().rev().take(8);
         let varnodes = last.map(|entry| varnode(entry.descriptors[place], entry.offsets[place]));
@@ -183,17 +183,7 @@ impl Programs {
 
     /// Adds an operation that must find something public, on a place that mostly is not.
     fn add_sink(&mut self, draft: &mut Draft) {
-        let others = [Opcode::Load, Opcode::Store, Opcode::Cbranch];
-        let opcode = self.pick(&[&others[..], &INDIRECT, &DIVISIONS].concat());
-        let operation = OPERATIONS[opcode as usize - 1];
-        let entry = self.lists.entry_with_room(&operation, &draft.frame, draft.index());
-        let entry = entry.and_then(|mut entry| {
-            let place = match operation.input_count {
-                1 => INPUT0,
-                _ if operation.divides() => self.pick(&[INPUT0, INPUT1]),
-                _ => INPUT1,
-            };
-            let size = u64::from(entry.descriptors[place] % 16);
+        let entry = self.sink(draft).and_then(|(mut entry, place, size)| {
             let sink = self.lists.output(size, &draft.frame.lengths)?;
             put(&mut entry, place, sink);
             if !self.once_in(8) {
@@ -203,6 +193,21 @@ impl Programs {
             Some(entry)
         });
         self.add_or_any(entry, draft);
+    }
+
+    /// An operation that must find something public, if there is room for one, with the place and the size
+    /// of that.
+    pub(super) fn sink(&mut self, draft: &Draft) -> Option<(Entry, usize, u64)> {
+        let others = [Opcode::Load, Opcode::Store, Opcode::Cbranch];
+        let opcode = self.pick(&[&others[..], &INDIRECT, &DIVISIONS].concat());
+        let operation = OPERATIONS[opcode as usize - 1];
+        let entry = self.lists.entry_with_room(&operation, &draft.frame, draft.index())?;
+        let place = match operation.input_count {
+            1 => INPUT0,
+            _ if operation.divides() => self.pick(&[INPUT0, INPUT1]),
+            _ => INPUT1,
+        };
+        Some((entry, place, u64::from(entry.descriptors[place] % 16)))
     }
 
     /// Adds an operation that closes a window.
@@ -263,7 +268,7 @@ impl Programs {
     }
 }
 
-fn constant(offset: u64, size: u64) -> Varnode {
+pub(super) fn constant(offset: u64, size: u64) -> Varnode {
     Varnode { space: CONSTANT, offset, size }
 }
 

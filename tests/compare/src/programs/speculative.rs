@@ -56,6 +56,11 @@ impl Programs {
             1 if operations > 8 => self.straight_case(),
             _ => self.branching_case(),
         };
+        self.with_window(case, operations)
+    }
+
+    /// A case with a window of so many operations and a journal for it, without limits.
+    pub(super) fn with_window(&mut self, case: Case, operations: u64) -> Speculation {
         let further_words = if self.once_in(2) { 0 } else { 1 + self.below(8) };
         let journal = self.words(operations * JOURNAL_WORDS_PER_OPERATION + further_words);
         Speculation { case, window: Window { operations, journal } }
@@ -67,7 +72,7 @@ impl Programs {
     }
 
     /// Chooses a budget and a log around what a run without limits needs.
-    fn set_limits(&mut self, speculation: &mut Speculation) {
+    pub(super) fn set_limits(&mut self, speculation: &mut Speculation) {
         let Speculation { case: Case { call, state }, window } = speculation;
         let RunCall { program, start, .. } = call;
         let mut after = State { log: vec![0; MOST_LOG_WORDS as usize], ..state.clone() };

@@ -1,0 +1,32 @@
+-- `run_memory::labels::in_memory` meets its contract.
+use native.Mathlib.Omega.{arith}
+use mathlib.Core.Path.{refl, sym}
+use Rattle.run_memory.proofs.Secrets.{still-eight, read-back}
+use Rattle.run_memory.proofs.labels.in_memory.Statement.{statement}
+use Rattle.run_memory.proofs.labels.in_memory.Tie as tie
+
+slice-aggregate-scatter : tie.Need-slice-aggregate-scatter
+slice-aggregate-scatter c = refl
+
+scatter-requires : tie.Need-scatter-requires
+scatter-requires c κs = let most = c .before .pre in (most, omega arith)
+
+slice-aggregate-gather : tie.Need-slice-aggregate-gather
+slice-aggregate-gather c =
+    let stored = c .before .before in
+    sym (still-eight _ refl _ _ _ (stored .before .before .pre) _ (stored .scatter .ensures))
+
+gather-requires : tie.Need-gather-requires
+gather-requires c κs =
+    let stored = c .before .before in
+    let most = stored .before .before .pre in
+    let eight = still-eight _ refl _ _ _ most _ (stored .scatter .ensures) in
+    (most, omega arith)
+
+returns : tie.Need-returns
+returns c =
+    let stored = c .before .before .before in
+    read-back _ refl _ _ _ (stored .before .before .pre) _ (stored .scatter .ensures) _ (c .gather .ensures)
+
+pub in-memory-spec : {M : Type 1} → statement M
+in-memory-spec = tie.close (tie.spec slice-aggregate-scatter scatter-requires slice-aggregate-gather gather-requires returns)
