@@ -26,7 +26,7 @@ use Rattle.machine.specs.Run.{Stop, Decision, Position, Ended, Stepped, 
 use Rattle.machine.specs.Run.{applyDecision, executeAs, execute, stepped, continued}
 use Rattle.machine.specs.Conditions.{hasSecret, leaks, exceedsSpace, taken, branchTaken, outOfBounds, dividesByZero, writesLog, lowPart, logWordOf, exits}
 use Rattle.machine.specs.Conditions.{destination, nextIndex, destinationBytes, becomesSecret, valueComputed, valueMoved, valueWritten, positionAfter, exactStepWith}
-use Rattle.machine.specs.Conditions.{labelMoved, labelsTold, operand1, labelsAfter, exactStep, exactStepWithin, Words, ExactConditions}
+use Rattle.machine.specs.Conditions.{labelMoved, exactLabels, operand1, labelsAfter, exactStep, exactStepWithin, Words, ExactConditions}
 use Rattle.operation.specs.Rules.{accesses, namesSpace, isDestination, breaksPlace, breaksSize, branches, jumps, relativeTarget}
 use Rattle.operation.proofs.Targets.{wrapping}
 use lib.IntN.{pos}
@@ -312,7 +312,7 @@ module _ (program : Program) (op : Operation) (at : Position) (labels m : Memory
 
   exactStep-by : exactStep program op at labels m
       ≡ exactStepBy (leaks labels op) (outOfBounds m op b) (dividesByZero op b) (writesLog op) (exits op b) (logWordOf op (at .index) b)
-      (destination op a) (nextIndex op (at .index) b) (destinationBytes op b) (labelsTold (bigEndian (program .settings)) labels op b (destinationBytes op b .size)) (valueWritten program m op a b)
+      (destination op a) (nextIndex op (at .index) b) (destinationBytes op b) (exactLabels (bigEndian (program .settings)) labels op b (destinationBytes op b .size)) (valueWritten program m op a b)
   unfolding exactStep exactStepWith labelsAfter exactStepBy positionAfter
   exactStep-by = refl
 
@@ -461,7 +461,7 @@ module _ (program : Program) (op : Operation) (at : Position) (labels m : Memory
       (cond (c .indirect) (a) (op .input0 .offset))
       (cond ((c .direct || (c .condition && not (eqb x 0))) && eqb (op .input0 .space) 1) ((at .index + op .input0 .offset) % 2 ^ 64) (suc (at .index)))
       (cond (c .stores) (pointee op x (op .input2 .size)) (op .output))
-      (labelsTold (bigEndian (program .settings)) labels op b (cond (c .stores) (pointee op x (op .input2 .size)) (op .output) .size))
+      (exactLabels (bigEndian (program .settings)) labels op b (cond (c .stores) (pointee op x (op .input2 .size)) (op .output) .size))
       (valueWritten program m op a b)
 
   exactStep-as : (c : Class) → classOf (op .opcode) ≡ c → executeAs program (c .kind) op at labels m ≡ exactStepAs c → execute program op at labels m ≡ exactStep program op at labels m
@@ -481,7 +481,7 @@ module _ (program : Program) (op : Operation) (at : Position) (labels m : Memory
 
     -- the labels written are those told
     abbrev Labels : (size : ℕ) → List Varnode → Type 0
-    Labels size vs = labelsWritten (program .settings) op size vs labels ≡ labelsTold (bigEndian (program .settings)) labels op b size
+    Labels size vs = labelsWritten (program .settings) op size vs labels ≡ exactLabels (bigEndian (program .settings)) labels op b size
 
     -- nothing that must be public, and nothing to check
     meets-free : (k : Kind) (vs : List Varnode) → classOf (op .opcode) ≡ free k → sinks k op ≡ []

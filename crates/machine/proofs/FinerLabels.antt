@@ -24,12 +24,13 @@ use Rattle.machine.specs.Effect.{digitsOf, signFill, valuesOf, computed,
 use Rattle.machine.specs.Run.{Position, Ended, Stepped, logWord, logging, access, checked, decided, advanced, ended, resolvedValue, applyDecision, executeAs, execute, stepped}
 use Rattle.machine.specs.Run.{continued, run}
 use Rattle.machine.specs.Calls.{starting}
-use Rattle.machine.specs.Conditions.{hasSecret, destinationBytes, labelOf, labelJoined, labelExtended, labelMoved, becomesSecret, labelWritten, labelsTold, operand1, labelsAfter}
+use Rattle.machine.specs.Conditions.{hasSecret, destinationBytes, labelOf, labelJoined, labelExtended, moving, labelMoved, becomesSecret, labelWritten, exactLabels, operand1, labelsAfter}
 use Rattle.machine.specs.Conditions.{leaks, outOfBounds, dividesByZero, writesLog, exits, exactStepWith, exactStep, Words}
 use Rattle.machine.specs.FinerLabels.{baseLabels, NoMoreSecret, FinerLabels}
 use Rattle.machine.proofs.Cases.{either, either-equal}
 use Rattle.machine.proofs.Pointwise.{Each, Spaces, each-at, each-from, spaces-space, spaces-written}
 use Rattle.machine.proofs.Secrecy.{flag-zero}
+use Rattle.machine.proofs.Labels.{same-label}
 use Rattle.machine.proofs.Conditions.{formed-at, meets}
 
 -- ---- one byte
@@ -85,7 +86,7 @@ module _ (big : Bool) (labels : Memory) where
 
     public-written : labelWritten big labels op b k ≡ 0
     unfolding labelWritten flag
-    public-written = rw none (either-equal (member (op .opcode) (1 ∷ 2 ∷ 3 ∷ 10 ∷ 11 ∷ 19 ∷ 20 ∷ [])) public-moved refl)
+    public-written = rw none (either-equal (member (op .opcode) moving) public-moved refl)
 
 -- ---- one operation
 
@@ -98,7 +99,7 @@ each-same [] = Each.empty
 each-same (l ∷ ls) = Each.entry (λ e. e) (each-same ls)
 
 written-finer : (big : Bool) (labels : Memory) (op : Operation) (b : ℕ) → NoMoreSecret (labelsAfter big labels op b) (baseLabels labels op b)
-unfolding labelsAfter labelsTold baseLabels
+unfolding labelsAfter exactLabels baseLabels
 written-finer big labels op b space i e =
     each-at (λ z. z) (spaces-space (spaces-written start (destinationBytes op b) marks) space) i e
   where
@@ -119,6 +120,11 @@ written-finer big labels op b space i e =
         each-from (replicate n base) (tabulate n f) (replicate n base) (length-replicate n base ∙ sym (tabulate-length n f)) (tabulate-length n f ∙ sym (length-replicate n base))
         (λ j l z. let m : j < n = subst (λ (k : ℕ). j < k) (length-replicate n base) l in
         tabulate-at n f j m ∙ public-written big labels op b (flag-zero (becomesSecret labels op b) (sym (getD-replicate n j base 0 m) ∙ z)) (significance big n j))
+
+written-whole : (big : Bool) (labels : Memory) (op : Operation) (b : ℕ) → member (op .opcode) moving ≡ false
+    → labelsAfter big labels op b ≡ baseLabels labels op b
+unfolding labelsAfter exactLabels labelWritten baseLabels
+written-whole big labels op b q = rw (q, same-label (destinationBytes op b .size) (flag (becomesSecret labels op b))) refl
 
 -- a step that goes on has these labels
 data Marks (after : Memory) : Stepped → Type 0 where
@@ -157,6 +163,10 @@ module _ (program : Program) (at : Position) (labels m : Memory) where
   finer to labels′ m′ words bytes v e =
       rw (marks-are (subst (Marks after) e (step-marks words bytes v))) (written-finer (bigEndian (program .settings)) labels op b)
 
+  others : (to : Position) (labels′ m′ : Memory) → Words (program .list) → OfBytes m → verdict (program .settings) (lengthsOf m) (program .list) .ending ≡ 0
+      → stepped program at labels m ≡ Stepped.going to labels′ m′ → member (op .opcode) moving ≡ false → labels′ ≡ baseLabels labels op b
+  others to labels′ m′ words bytes v e q = marks-are (subst (Marks after) e (step-marks words bytes v)) ∙ written-whole (bigEndian (program .settings)) labels op b q
+
 pub finer-labels : FinerLabels
 unfolding sum tabulate digit part significance valueOf bytesOf flag member divides operationCount wordAt headByte opcodeAt descriptorAt offsetAt describedBy
     varnodeAt absent branches jumps relativeTarget wordsizeOf spaceOf withSpace bytesAt written valueAt ordered digitsAt operationAt kindOf sinks tested byteOffset resolved pointee
@@ -165,14 +175,20 @@ unfolding sum tabulate digit part significance valueOf bytesOf flag member divid
     destinationBytes becomesSecret baseLabels
 finer-labels = record {
   operation = λ program at to labels m labels′ m′. finer program at labels m to labels′ m′;
+  others = λ program at to labels m labels′ m′. others program at labels m to labels′ m′;
   copied = (refl, refl);
   base = refl;
+  basePublic = refl;
   loaded = (refl, refl);
   stored = (refl, refl);
   joined = (refl, refl);
+  halves = (refl, refl);
   dropped = (refl, refl);
   kept = (refl, refl);
+  neighbours = (refl, refl);
   zeroFill = (refl, refl);
   lowByte = (refl, refl);
   topByte = (refl, refl);
+  computed = (refl, refl);
+  cleared = (refl, refl);
 }

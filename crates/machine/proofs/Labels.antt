@@ -7,7 +7,7 @@ use mathlib.Core.List.{List, [], _∷_, append-nil}
 use borrow.Author.Tests.{eqb-true, ltb-true, ltb-false, lt-ltb}
 use lib.Dec.{ltb, eqb}
 use lib.ListN.{length, getD, replicate, length-replicate, getD-replicate}
-use Rattle.word.specs.Sum.{digit}
+use Rattle.word.specs.Sum.{tabulate, digit}
 use Rattle.word.specs.Word.{part, significance, valueOf, bytesOf}
 use Rattle.word.proofs.Sums.{tabulate-is, tabulate-past}
 use Rattle.word.proofs.Laws.{significance-lt, significance-twice, part-at, part-bytes, value-lt, written-read}
@@ -17,7 +17,7 @@ use Rattle.operation.specs.declared.layout.Varnode.{Varnode}
 use Rattle.machine.specs.Program.{bigEndian}
 use Rattle.machine.specs.Memory.{Memory, OfBytes, spaceOf, bytesAt, ordered}
 use Rattle.machine.specs.Effect.{Operation, dropped, moves, origin, entryFrom, labelsOf, labelFill, secret, labelsWritten}
-use Rattle.machine.specs.Conditions.{labelOf, labelJoined, labelExtended, labelMoved, becomesSecret, labelWritten, labelsTold}
+use Rattle.machine.specs.Conditions.{labelOf, labelJoined, labelExtended, labelMoved, becomesSecret, labelWritten, exactLabels}
 use Rattle.machine.proofs.Moves.{length-ordered, ordered-at, bytes-count, ordered-number, entry, joined-at, taken, extended, moved-is}
 
 -- ---- the labels of a varnode
@@ -78,14 +78,18 @@ word-bytes labels v h =
 
 -- ---- the labels written
 
+-- one label for all
+pub same-label : (n c : ℕ) → tabulate n (λ i. c) ≡ replicate n c
+same-label n c = tabulate-is n (λ i. c) (replicate n c) (length-replicate n c) (λ i l. sym (getD-replicate n i c 0 l))
+
 module _ (settings : Settings) (op : Operation) (labels : Memory) (b n : ℕ) where
   abbrev big : Bool
   big = bigEndian settings
 
   told : (vs : List Varnode) → moves op ≡ true
       → ((k : ℕ) → entryFrom labelFill (labelsOf settings labels vs) (origin op (length (labelsOf settings labels vs)) k) ≡ labelMoved big labels op b k)
-      → labelsWritten settings op n vs labels ≡ labelsTold big labels op b n
-  unfolding labelsWritten labelsTold labelWritten moves
+      → labelsWritten settings op n vs labels ≡ exactLabels big labels op b n
+  unfolding labelsWritten exactLabels labelWritten moves
   told vs e h = rw e (moved-is big op n labelFill (labelsOf settings labels vs) (labelMoved big labels op b) (λ k l. h k))
 
   module _ (v : Varnode) where
@@ -96,13 +100,13 @@ module _ (settings : Settings) (op : Operation) (labels : Memory) (b n : ℕ) wh
     -- moved from one varnode, without its d low bytes
     pub told-one : moves op ≡ true → eqb (op .opcode) 20 ≡ false → (d : ℕ) → dropped op ≡ d
         → ((k : ℕ) → labelOf big labels v (d + k) ≡ labelMoved big labels op b k)
-        → labelsWritten settings op n (v ∷ []) labels ≡ labelsTold big labels op b n
+        → labelsWritten settings op n (v ∷ []) labels ≡ exactLabels big labels op b n
     told-one e n20 d q h =
         told (v ∷ []) e (λ k. taken op labelFill (labelsOf settings labels (v ∷ [])) k n20 ∙ rw (one, q) (label-at big labels v (d + k) ∙ h k))
 
   -- PIECE: input0 above input1
   pub told-both : moves op ≡ true → eqb (op .opcode) 20 ≡ false → dropped op ≡ 0 → ((k : ℕ) → labelJoined big labels op k ≡ labelMoved big labels op b k)
-      → labelsWritten settings op n (op .input1 ∷ op .input0 ∷ []) labels ≡ labelsTold big labels op b n
+      → labelsWritten settings op n (op .input1 ∷ op .input0 ∷ []) labels ≡ exactLabels big labels op b n
   unfolding labelsOf labelJoined
   told-both e n20 q h =
       told (op .input1 ∷ op .input0 ∷ []) e
@@ -113,7 +117,7 @@ module _ (settings : Settings) (op : Operation) (labels : Memory) (b n : ℕ) wh
 
   -- INT_SEXT
   pub told-extended : moves op ≡ true → op .opcode ≡ 20 → ((k : ℕ) → labelExtended big labels op k ≡ labelMoved big labels op b k)
-      → labelsWritten settings op n (op .input0 ∷ []) labels ≡ labelsTold big labels op b n
+      → labelsWritten settings op n (op .input0 ∷ []) labels ≡ exactLabels big labels op b n
   unfolding labelExtended labelFill
   told-extended e e20 h =
       told (op .input0 ∷ []) e
@@ -123,8 +127,6 @@ module _ (settings : Settings) (op : Operation) (labels : Memory) (b n : ℕ) wh
 
   -- one label for all bytes
   pub told-whole : (vs : List Varnode) → moves op ≡ false → secret labels vs ≡ becomesSecret labels op b
-      → labelsWritten settings op n vs labels ≡ labelsTold big labels op b n
-  unfolding labelsWritten labelsTold labelWritten moves
-  told-whole vs e h =
-      let c : ℕ = flag (becomesSecret labels op b) in
-      rw (e, h) (sym (tabulate-is n (λ i. c) (replicate n c) (length-replicate n c) (λ i l. sym (getD-replicate n i c 0 l))))
+      → labelsWritten settings op n vs labels ≡ exactLabels big labels op b n
+  unfolding labelsWritten exactLabels labelWritten moves
+  told-whole vs e h = rw (e, h) (sym (same-label n (flag (becomesSecret labels op b))))

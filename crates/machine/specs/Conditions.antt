@@ -109,6 +109,10 @@ labelJoined big labels op k =
 unfoldable pub labelExtended : (big : Bool) → (labels : Memory) → Operation → (k : ℕ) → ℕ
 labelExtended big labels op k = labelOf big labels (op .input0) (cond (ltb k (op .input0 .size)) k (op .input0 .size - 1))
 
+-- The operations that move bytes: COPY, LOAD, STORE, PIECE, SUBPIECE, INT_ZEXT, INT_SEXT.
+abbrev pub moving : List ℕ
+moving = 1 ∷ 2 ∷ 3 ∷ 10 ∷ 11 ∷ 19 ∷ 20 ∷ []
+
 -- For COPY, LOAD and STORE the label goes with each byte. For PIECE, SUBPIECE, INT_ZEXT and INT_SEXT it goes with the byte by
 -- significance: byte k of SUBPIECE 11 is byte k of input0 without its input1 low bytes; that of COPY 1 and INT_ZEXT 19 is byte k of input0.
 unfoldable pub labelMoved : (big : Bool) → (labels : Memory) → Operation → (b k : ℕ) → ℕ
@@ -121,7 +125,8 @@ labelMoved big labels op b k =
     (labelOf big labels (op .input0) k)))))
 
 -- The base's rule, which all else keeps: all bytes of an output become secret if any byte of any varnode read, or any byte loaded, is
--- secret; else public. STORE makes all its target bytes secret if any byte of input2 is secret, else public.
+-- secret; else public. STORE makes all its target bytes secret if any byte of input2 is secret, else public. What it says of LOAD and STORE is
+-- for `FinerLabels`, which compares with it.
 unfoldable pub becomesSecret : (labels : Memory) → Operation → (b : ℕ) → Bool
 becomesSecret labels op b =
     cond (eqb (op .opcode) 3) (hasSecret labels (op .input2))
@@ -131,11 +136,11 @@ becomesSecret labels op b =
 -- The label of byte k of what is written to.
 unfoldable pub labelWritten : (big : Bool) → (labels : Memory) → Operation → (b k : ℕ) → ℕ
 labelWritten big labels op b k =
-    cond (member (op .opcode) (1 ∷ 2 ∷ 3 ∷ 10 ∷ 11 ∷ 19 ∷ 20 ∷ [])) (labelMoved big labels op b k) (flag (becomesSecret labels op b))
+    cond (member (op .opcode) moving) (labelMoved big labels op b k) (flag (becomesSecret labels op b))
 
 -- The labels of `size` bytes that are written to, in memory order.
-unfoldable pub labelsTold : (big : Bool) → (labels : Memory) → Operation → (b size : ℕ) → List ℕ
-labelsTold big labels op b size = tabulate size (λ i. labelWritten big labels op b (significance big size i))
+unfoldable pub exactLabels : (big : Bool) → (labels : Memory) → Operation → (b size : ℕ) → List ℕ
+exactLabels big labels op b size = tabulate size (λ i. labelWritten big labels op b (significance big size i))
 
 -- ---- the value written, by the value a of input0 and the number b that input1 stands for
 
@@ -169,7 +174,7 @@ exactStepWith program op a b at labels marked m =
 
 -- The labels after an operation that goes on.
 unfoldable pub labelsAfter : (big : Bool) → (labels : Memory) → Operation → (b : ℕ) → Memory
-labelsAfter big labels op b = written labels (destinationBytes op b) (labelsTold big labels op b (destinationBytes op b .size))
+labelsAfter big labels op b = written labels (destinationBytes op b) (exactLabels big labels op b (destinationBytes op b .size))
 
 -- At each operation, in order: LEAK; and the rest.
 unfoldable pub exactStep : Program → Operation → Position → (labels memory : Memory) → Stepped

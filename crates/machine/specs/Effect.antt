@@ -165,7 +165,7 @@ unfoldable pub origin : Operation → (count k : ℕ) → Origin
 origin op count k =
     cond (ltb (dropped op + k) count) (read (dropped op + k)) (cond (eqb (op .opcode) 20) (filled (count - 1)) zeros)
 
--- What comes from an origin, of some entries: bytes, or labels. `fill` is what one of them fills with.
+-- What comes from an origin, of some entries: bytes, or labels, of which 0 is public. `fill` is what one of them fills with.
 unfoldable pub entryFrom : (fill : ℕ → ℕ) → (entries : List ℕ) → Origin → ℕ
 entryFrom fill entries (read k) = getD entries k 0
 entryFrom fill entries zeros = 0
@@ -215,7 +215,7 @@ unfoldable pub secret : (labels : Memory) → List Varnode → Bool
 secret labels [] = false
 secret labels (v ∷ vs) = anySecret (bytesAt labels v) || secret labels vs
 
--- The labels of some varnodes' bytes, as `digitsOf` has the bytes.
+-- The labels of some varnodes' bytes, as `digitsOf` has the bytes; a constant has as many as bytes, and all are 0.
 unfoldable pub labelsOf : Settings → (labels : Memory) → List Varnode → List ℕ
 labelsOf settings labels [] = []
 labelsOf settings labels (v ∷ vs) = ordered (bigEndian settings) (bytesAt labels v) ++ labelsOf settings labels vs
@@ -226,7 +226,6 @@ labelFill label = label
 
 -- The labels that an operation writes to its target of `size` bytes. A move takes each byte's label along; zero fill is public, and INT_SEXT's
 -- fill has the label of the top byte. Of all others the whole output becomes secret if any byte of any varnode read is secret; else public.
--- What must be public is public here, so it need not be looked at again.
 unfoldable pub labelsWritten : Settings → Operation → (size : ℕ) → List Varnode → (labels : Memory) → List ℕ
 labelsWritten settings op size vs labels =
     cond (moves op)

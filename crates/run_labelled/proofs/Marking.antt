@@ -20,7 +20,7 @@ use Rattle.machine.specs.Memory.{Memory, OfBytes, lengthsOf, spaceOf, written, 
 use Rattle.machine.specs.Effect.{Operation, operationAt, pointee}
 use Rattle.machine.specs.Run.{Position, logWord, advanced, ended, continued, run}
 use Rattle.machine.specs.Calls.{Outcome, unlabelled, logAfter, outcomeOf, plainOutcome, labelledOutcome}
-use Rattle.machine.specs.Conditions.{operand1, leaks, exceedsSpace, outOfBounds, dividesByZero, writesLog, lowPart, exits, destinationBytes, labelMoved, becomesSecret, labelWritten, labelsTold, labelsAfter}
+use Rattle.machine.specs.Conditions.{operand1, leaks, exceedsSpace, outOfBounds, dividesByZero, writesLog, lowPart, exits, destinationBytes, labelMoved, becomesSecret, labelWritten, exactLabels, labelsAfter}
 use Rattle.machine.specs.Conditions.{valueWritten, Words}
 use Rattle.machine.proofs.Conditions.{few-operations, absent-written}
 use Rattle.machine.proofs.Limits.{log-length}
@@ -58,7 +58,7 @@ module _ (op : Operation) (b p : ℕ) (ep : p ≡ b) (target : Varnode) (et : ta
 
 -- the byte offset is looked at by LOAD and STORE alone
 other-offset : (big : Bool) (labels : Memory) (op : Operation) (b c : ℕ) → accesses (op .opcode) ≡ false → labelsAfter big labels op c ≡ labelsAfter big labels op b
-unfolding labelsAfter labelsTold labelWritten labelMoved destinationBytes becomesSecret
+unfolding labelsAfter exactLabels labelWritten labelMoved destinationBytes becomesSecret
 other-offset big labels op b c e = let n = no-access (op .opcode) e in rw (n .n2, n .n3) refl
 
 other-target : (op : Operation) (b c : ℕ) → accesses (op .opcode) ≡ false → destinationBytes op c ≡ destinationBytes op b

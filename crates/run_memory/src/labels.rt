@@ -65,7 +65,7 @@ pub fn each_label(label: u64) -> u64
     label * 0x0101010101010101
 }
 
-// The number, in little order, of the bytes that a number makes in a byte order.
+// What the bytes of a number, laid out in a byte order, are worth in little order: in big order they are turned round.
 pub fn in_memory(big: bool, size: usize, n: u64) -> u64
     requires { ⌜ size ≤ 8 ⌝ }
     ensures { λ r. ⌜ bytesOf false size r ≡ bytesOf big size n ⌝ }

@@ -25,12 +25,12 @@ use Rattle.operation.specs.Layout.{opcodeAt, varnodeAt}
 use Rattle.operation.specs.Rules.{breaksSize}
 use Rattle.machine.specs.Memory.{Memory, OfBytes, bytesAt}
 use Rattle.machine.specs.Effect.{Operation, operationAt, pointee}
-use Rattle.machine.specs.Conditions.{hasSecret, destinationBytes, labelOf, labelJoined, labelExtended, labelMoved, becomesSecret, labelWritten, labelsTold}
+use Rattle.machine.specs.Conditions.{hasSecret, destinationBytes, labelOf, labelJoined, labelExtended, moving, labelMoved, becomesSecret, labelWritten, exactLabels}
 use Rattle.machine.proofs.Conditions.{when}
 use Rattle.machine.proofs.Moves.{bytes-count}
 use Rattle.machine.proofs.Labels.{label-either, label-in-memory, word-fits, word-bytes, word-digit}
 use Rattle.run_memory.specs.Placed.{Placed}
-use Rattle.run_taint.specs.Taint.{Readable, LabelWord, moving, sourceOf, MovableWords, movedByte}
+use Rattle.run_taint.specs.Taint.{Readable, LabelWord, sourceOf, MovableWords, movedByte}
 use Rattle.run_taint.proofs.Tainting.{place}
 
 -- ---- INT_SEXT of a word
@@ -121,8 +121,8 @@ module _ (op : Operation) (offset : ℕ) where
 
 -- a list of labels told byte by byte, in memory order
 told-are : (big : Bool) (labels : Memory) (op : Operation) (offset size : ℕ) (ls : List ℕ) → length ls ≡ size
-    → ((i : ℕ) → i < size → getD ls i 0 ≡ labelWritten big labels op offset (significance big size i)) → ls ≡ labelsTold big labels op offset size
-unfolding labelsTold
+    → ((i : ℕ) → i < size → getD ls i 0 ≡ labelWritten big labels op offset (significance big size i)) → ls ≡ exactLabels big labels op offset size
+unfolding exactLabels
 told-are big labels op offset size ls c h =
     sym (tabulate-is size (λ i. labelWritten big labels op offset (significance big size i)) ls c (λ i l. sym (h i l)))
 

@@ -1,6 +1,6 @@
 -- What the code relies on where it looks at the labels of an operation, and what it makes of them.
 use Prim.Native.Nat.{ℕ, _+_, _-_, _^_, _≤_, _<_}
-use mathlib.Core.List.{List, [], _∷_}
+use mathlib.Core.List.{List}
 use mathlib.Core.Path.{_≡_}
 use mathlib.Core.Bool.{Bool, true, false, cond}
 use lib.Dec.{eqb, ltb}
@@ -11,7 +11,7 @@ use Rattle.operation.specs.Layout.{operationCount, opcodeAt, varnodeAt}
 use Rattle.operation.specs.Rules.{branches}
 use Rattle.machine.specs.Memory.{Memory, lengthsOf}
 use Rattle.machine.specs.Effect.{Operation, operationAt, pointee}
-use Rattle.machine.specs.Conditions.{destinationBytes, labelsTold}
+use Rattle.machine.specs.Conditions.{destinationBytes, exactLabels}
 use Rattle.run_memory.specs.Placed.{Placed}
 use Rattle.run_plan.specs.Valid.{Valid}
 
@@ -23,14 +23,11 @@ pub record Readable (labels : Memory) (list : List ℕ) (i offset : ℕ) : Type 
   pub noBranch : branches (opcodeAt list i) ≡ false
   pub loaded : eqb (opcodeAt list i) 2 ≡ true → Placed labels (pointee (operationAt list i) offset (varnodeAt list i 0 .size))
 
--- A label word of what an operation writes to: in little order its bytes are the labels, as they lie in memory.
+-- A label word of what an operation writes to: in little order its bytes are the labels, as they lie in memory. What it has above them is
+-- free: no more is stored.
 abbrev pub LabelWord : (big : Bool) (labels : Memory) (op : Operation) (offset word : ℕ) → Type 0
 LabelWord big labels op offset word =
-    bytesOf false (destinationBytes op offset .size) word ≡ labelsTold big labels op offset (destinationBytes op offset .size)
-
--- COPY, LOAD, STORE, PIECE, SUBPIECE, INT_ZEXT, INT_SEXT.
-abbrev pub moving : List ℕ
-moving = 1 ∷ 2 ∷ 3 ∷ 10 ∷ 11 ∷ 19 ∷ 20 ∷ []
+    bytesOf false (destinationBytes op offset .size) word ≡ exactLabels big labels op offset (destinationBytes op offset .size)
 
 -- What COPY, LOAD and STORE read.
 unfoldable pub sourceOf : Operation → (offset : ℕ) → Varnode

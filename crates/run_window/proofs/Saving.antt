@@ -18,7 +18,7 @@ use Rattle.machine.specs.Program.{Program, bigEndian}
 use Rattle.machine.specs.Memory.{Memory, OfBytes, lengthsOf, written, valueAt}
 use Rattle.machine.specs.Effect.{Operation, operationAt, pointee}
 use Rattle.machine.specs.Run.{Position, Ended, Stepped, advanced, ended, continued, run}
-use Rattle.machine.specs.Conditions.{leaks, operand1, exceedsSpace, outOfBounds, destinationBytes, labelsTold, labelsAfter, Words}
+use Rattle.machine.specs.Conditions.{leaks, operand1, exceedsSpace, outOfBounds, destinationBytes, exactLabels, labelsAfter, Words}
 use Rattle.machine.proofs.Kept.{written-lengths}
 use Rattle.speculation.specs.Speculation.{journalWords}
 use Rattle.run_memory.specs.Placed.{Placed}
@@ -72,7 +72,7 @@ module _ (program : Program) (at : Position) (labels m : Memory) where
     Left s = Leaves (targetBefore program m (at .index)) (continued (run program 0) s)
 
     applied-leaves : at .index < operationCount (program .list) → Left (applied program P at labels (labelsAfter (bigEndian (program .settings)) labels op b) m)
-    unfolding applied continued run ended advanced labelsAfter labelsTold nextPlan
+    unfolding applied continued run ended advanced labelsAfter exactLabels nextPlan
     applied-leaves inside =
         by-cond Left (ltb 1 (P .stop)) _ _ (λ e. same refl refl)
         (λ es. by-cond Left (P .due && eqb (at .room) 0) _ _ (λ e. same refl refl)

@@ -4,7 +4,7 @@ use Rattle.arithmetic.specs.Opcodes.{member}
 use Rattle.machine.specs.Effect.{operationAt}
 use Rattle.run_plan.proofs.Opcodes.{of-opcode}
 use Rattle.run_plan.proofs.Places.{in-words}
-use Rattle.run_taint.specs.Taint.{moving}
+use Rattle.machine.specs.Conditions.{moving}
 use Rattle.run_taint.proofs.LabelWords.{word-whole, place-input, flag-small, whole-most}
 use borrow.Author.Needs.{needs}
 use Rattle.run_taint.proofs.labels_written.Statement.{statement}
