@@ -33,6 +33,20 @@ pub const MOVES: [Opcode; 7] = [
     Opcode::IntSext,
 ];
 
+/// The operations that must find something public.
+pub const SINKS: [Opcode; 10] = [
+    Opcode::Load,
+    Opcode::Store,
+    Opcode::Cbranch,
+    Opcode::BranchInd,
+    Opcode::CallInd,
+    Opcode::Return,
+    Opcode::IntDiv,
+    Opcode::IntRem,
+    Opcode::IntSdiv,
+    Opcode::IntSrem,
+];
+
 /// What can happen to labels in a run, or in a window.
 #[derive(Clone, Copy, Debug, PartialEq, Eq, PartialOrd, Ord)]
 pub enum Event {

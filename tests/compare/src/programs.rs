@@ -30,7 +30,7 @@ const SHORT_RUN: u32 = 40;
 /// The places of an entry: output and inputs.
 const OUTPUT: usize = 0;
 const INPUT0: usize = 1;
-const INPUT1: usize = 2;
+pub const INPUT1: usize = 2;
 const INPUT2: usize = 3;
 
 /// Makes random cases for the labelled run; without their labels they are cases for the plain run.

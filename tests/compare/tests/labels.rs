@@ -8,19 +8,19 @@ use compare::agreement::Tally;
 use compare::campaign::Campaign;
 use compare::inputs::{largest_value, GOOD_ORDERS, SIZES};
 use compare::lists::{entry_at, plain_entry, with_varnode};
-use compare::moves::{whole_label, Event, Moves, Seen, Watch, MOVES};
-use compare::programs::Programs;
+use compare::moves::{whole_label, Event, Moves, Seen, Watch, MOVES, SINKS};
+use compare::programs::{Programs, INPUT1};
 use compare::runs::{check_run, Case, Job};
 use compare::secrets::{check_pair, labels, memory_pair};
 use compare::single::{case_of, cbranch, check_left_out, check_report, check_single};
 use compare::speculations::check_speculation;
 use compare::wordsizes::varnodes;
 use reference::answers::LentWords;
-use reference::fault::{LEAK, LEAK_AHEAD};
+use reference::fault::{BOUNDS, LEAK, LEAK_AHEAD, LOG, ZERO};
 use reference::list::Entry;
 use reference::memory::{Spaces, PUBLIC, SECRET};
 use reference::opcodes::{Opcode, Operation, ANY_ADDRESS_SIZE, INTEGER_OPERATIONS};
-use reference::run::Observed;
+use reference::run::{Observed, BUDGET, EXIT};
 use reference::varnode::{Lengths, Varnode, Wordsizes, CONSTANT, RAM, REGISTER, UNIQUE};
 use reference::verdict::{Settings, END};
 
@@ -32,21 +32,16 @@ const MEMORY_PAIRS: u64 = 70_000;
 const PAIR_QUOTA: u64 = 50_000;
 const SINGLE_OPERATIONS: u64 = 60_000;
 
+/// How many windows should have such a move.
+const WINDOW_QUOTA: u64 = 30_000;
+
 /// How often each move should leave secret and public bytes beside each other, and what was moved be used by
 /// each operation that must find it public, where it is and where it is not.
 const MOVE_QUOTA: u64 = 500;
-/// How often each other event should come, and each in windows.
+/// How often each other event should come, and each in windows and in pairs.
 const QUOTA: u64 = 200;
-
-/// The operations that use an address or a condition.
-const USES: [Opcode; 6] = [
-    Opcode::Load,
-    Opcode::Store,
-    Opcode::Cbranch,
-    Opcode::BranchInd,
-    Opcode::CallInd,
-    Opcode::Return,
-];
+/// How often each use of what was moved should come in windows.
+const WINDOW_USE_QUOTA: u64 = 100;
 
 /// The lengths of the spaces for single operations.
 const LENGTHS: Lengths = Lengths { unique: 40, register: 42, ram: 44 };
@@ -340,7 +335,7 @@ fn what_moves_nothing_has_one_label() {
                 // A shift by one byte, and a mask of one.
                 for offset in [8, 0xff] {
                     let constant = Varnode { space: CONSTANT, offset, size: sizes.input1 };
-                    let entry = with_varnode(entry, 2, constant);
+                    let entry = with_varnode(entry, INPUT1, constant);
                     check_whole(operation, order, &entry, &mut tally);
                 }
             }
@@ -364,14 +359,14 @@ fn check_watched(case: &Case, seen: &mut Seen) -> [u64; 5] {
     report
 }
 
-/// How often each event should come: each move and each use of what was moved, and each other.
-fn assert_quotas(moves: &Moves, move_quota: u64, quota: u64) {
+/// How often each event should come: each move, each use of what was moved, and each other.
+fn assert_quotas(moves: &Moves, [move_quota, use_quota, quota]: [u64; 3]) {
     for opcode in MOVES.map(|opcode| opcode as u8) {
         moves.assert_quota(Event::Mixed { opcode }, move_quota);
     }
-    for opcode in USES.map(|opcode| opcode as u8) {
-        moves.assert_quota(Event::Beside { opcode }, move_quota);
-        moves.assert_quota(Event::LeakAtMoved { opcode }, move_quota);
+    for opcode in SINKS.map(|opcode| opcode as u8) {
+        moves.assert_quota(Event::Beside { opcode }, use_quota);
+        moves.assert_quota(Event::LeakAtMoved { opcode }, use_quota);
     }
     for event in [
         Event::OverlappingCopy,
@@ -404,7 +399,7 @@ fn random_programs() {
     );
     if campaign.is_whole() {
         moves.assert_quota(Event::Run, RUN_QUOTA * campaign.times());
-        assert_quotas(&moves, MOVE_QUOTA, QUOTA);
+        assert_quotas(&moves, [MOVE_QUOTA, MOVE_QUOTA, QUOTA]);
     }
 }
 
@@ -430,7 +425,9 @@ fn random_speculations() {
          speculative run, moves in windows: {windows}"
     );
     if campaign.is_whole() {
-        assert_quotas(&windows, QUOTA, QUOTA);
+        tally.assert_numbers(&[END, EXIT, BUDGET, LEAK, BOUNDS, ZERO, LOG, LEAK_AHEAD]);
+        windows.assert_quota(Event::Run, WINDOW_QUOTA * campaign.times());
+        assert_quotas(&windows, [QUOTA, WINDOW_USE_QUOTA, QUOTA]);
     }
 }
 
@@ -453,7 +450,7 @@ fn secret_bytes_do_not_show() {
     );
     if campaign.is_whole() {
         moves.assert_quota(Event::Run, PAIR_QUOTA * campaign.times());
-        assert_quotas(&moves, QUOTA, QUOTA);
+        assert_quotas(&moves, [QUOTA; 3]);
     }
 }
 
@@ -468,7 +465,8 @@ fn labels_of_step(case: &Case) -> [Spaces; 2] {
         whole.part_mut(&written).fill(label);
     };
     let mut after = state.clone();
-    check_run(Job::Step, call, &mut after, LentWords::EXACT, observer);
+    let report = check_run(Job::Step, call, &mut after, LentWords::EXACT, observer);
+    assert!(report.is_some(), "no report of five words on\n{case}");
     [labels(&after).clone(), whole]
 }
 
@@ -497,5 +495,7 @@ fn labels_are_never_more_secret_than_one_for_each_output() {
     );
     if campaign.is_whole() {
         finer.assert_quota(&MOVES.map(|opcode| opcode as u64), QUOTA);
+        let integers: Vec<u64> = INTEGER_OPERATIONS.iter().map(|op| op.opcode as u64).collect();
+        all.assert_quota(&integers, QUOTA);
     }
 }

@@ -9,6 +9,7 @@ use compare::agreement::Tally;
 use compare::campaign::Campaign;
 use compare::divisions::{Secret, DIVISIONS};
 use compare::inputs::{BAD_WINDOWS, GOOD_ORDERS, SIZES};
+use compare::moves::{self, MOVES, SINKS};
 use compare::parts::run_in_parts;
 use compare::programs::Programs;
 use compare::runs::{interpreter_report, Case, Job};
@@ -46,9 +47,6 @@ const QUOTA: u64 = 200;
 /// Spaces of the greatest length take long.
 const LONG_SPACE_QUOTA: u64 = 100;
 
-/// The operations at which a run leaks, by opcode.
-const SINKS: [u8; 10] = [2, 3, 5, 6, 8, 9, 35, 36, 37, 38];
-
 /// LEAK AHEAD at each division by its dividend alone.
 fn leaks_by_dividend() -> [Event; 4] {
     let secret = Secret::Dividend;
@@ -61,7 +59,7 @@ fn assert_quotas(windows: &Windows) {
     windows.assert_quota(Event::Closed(LeakAhead), NEW_ENDING_QUOTA);
     windows.assert_quota(Event::Closed(Log), NEW_ENDING_QUOTA);
     let closings = [Done, End, Exit, Bounds, Zero].map(Event::Closed);
-    let sinks = SINKS.map(|opcode| Event::Leak { opcode });
+    let sinks = SINKS.map(|opcode| Event::Leak { opcode: opcode as u8 });
     let refused = [65, u64::MAX].map(|window| Event::WindowRefused { window });
     let runs = COUNTED_WINDOWS.map(|window| Event::Run { window });
     let done = COUNTED_WINDOWS.map(|window| Event::Done { window });
@@ -288,10 +286,19 @@ fn memory_pair(programs: &mut Programs) -> [Speculation; 2] {
 }
 
 /// Runs a pair, and fails if a secret byte shows. Gives back what was left, and the report.
-fn check_pair(before: &[Speculation; 2], windows: &mut Windows) -> ([Speculation; 2], [u64; 5]) {
+fn check_pair(
+    before: &[Speculation; 2],
+    windows: &mut Windows,
+    moves: &mut moves::Seen,
+) -> ([Speculation; 2], [u64; 5]) {
     let [mut one, mut other] = before.clone();
     let mut watch = Watch::new(windows, &before[0]);
-    let report = check_speculation(&mut one, LentWords::EXACT, |event| watch.hear(event));
+    let mut moves = moves::Watch::new(moves, &before[0].case);
+    let observer = |event: speculative::Event| {
+        moves.hear(event);
+        watch.hear(event);
+    };
+    let report = check_speculation(&mut one, LentWords::EXACT, observer);
     let report = report.expect("a report of five words");
     watch.finish(report[0]);
     let other_report = speculative_report(&mut other);
@@ -309,17 +316,20 @@ fn secret_bytes_do_not_show() {
     let mut campaign = Campaign::new(SEED, MEMORY_PAIRS);
     let mut tally = Tally::default();
     let mut windows = Windows::default();
+    let mut moves = moves::Seen::default();
     let mut different_after = 0;
     for (_, random) in campaign.by_ref() {
         let pair = memory_pair(&mut Programs::new(random));
-        let ([one, other], report) = check_pair(&pair, &mut windows);
+        let ([one, other], report) = check_pair(&pair, &mut windows, &mut moves);
         tally.count(report[0]);
         different_after += u64::from(one.case.state.memory != other.case.state.memory);
     }
     println!(
         "speculative run, pairs of memories with other secret bytes: {campaign}, {tally}, \
          {different_after} with other secret bytes after the run\n\
-         speculative run, pairs, windows: {windows}"
+         speculative run, pairs, windows: {windows}\n\
+         speculative run, pairs, moves in windows: {}",
+        moves.windows
     );
     if campaign.is_whole() {
         tally.assert_numbers(&ENDINGS);
@@ -327,9 +337,12 @@ fn secret_bytes_do_not_show() {
         for event in [Event::MakesSecret, Event::MakesPublic, Event::Closed(Closing::Log)] {
             windows.assert_quota(event, NEW_ENDING_QUOTA);
         }
-        let sinks = SINKS.map(|opcode| Event::Leak { opcode });
+        let sinks = SINKS.map(|opcode| Event::Leak { opcode: opcode as u8 });
         for event in sinks.into_iter().chain(leaks_by_dividend()) {
             windows.assert_quota(event, QUOTA);
+        }
+        for opcode in MOVES.map(|opcode| opcode as u8) {
+            moves.windows.assert_quota(moves::Event::Mixed { opcode }, QUOTA);
         }
     }
 }
@@ -419,7 +432,7 @@ fn sink(opcode: u8) -> [u64; 5] {
 fn a_leak_at_every_operation_of_every_window() {
     let mut tally = Tally::default();
     for before in [0, 1, 2, 30, 61, 62, 63, 64] {
-        for opcode in SINKS {
+        for opcode in SINKS.map(|opcode| opcode as u8) {
             // The end comes after the sink.
             let end = before + 2;
             let mut list = vec![cbranch(end)];

@@ -2,6 +2,7 @@
 
 use super::*;
 use crate::divisions::DIVISIONS;
+use crate::moves::SINKS;
 use reference::varnode::{REGISTER, UNIQUE};
 
 /// The operations that always exit.
@@ -198,8 +199,7 @@ impl Programs {
     /// An operation that must find something public, if there is room for one, with the place and the size
     /// of that.
     pub(super) fn sink(&mut self, draft: &Draft) -> Option<(Entry, usize, u64)> {
-        let others = [Opcode::Load, Opcode::Store, Opcode::Cbranch];
-        let opcode = self.pick(&[&others[..], &INDIRECT, &DIVISIONS].concat());
+        let opcode = self.pick(&SINKS);
         let operation = OPERATIONS[opcode as usize - 1];
         let entry = self.lists.entry_with_room(&operation, &draft.frame, draft.index())?;
         let place = match operation.input_count {
