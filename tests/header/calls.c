@@ -88,11 +88,11 @@ static void runs(void) {
     expect("byte after a refusal", registers[2], 2);
 }
 
-/* The same COPY with a secret byte at 0: both bytes written become secret, and a RETURN to one of them is LEAK. */
+/* The same COPY with a secret byte at 0: its copy at 1 is secret, the one behind it is not, and a RETURN to the copy is LEAK. */
 static void labelled_runs(void) {
-    uint64_t list[10] = {0x00323201, 1, 0, 0, 0, 0x00310009, 0, 2, 0, 0};
+    uint64_t list[10] = {0x00323201, 1, 0, 0, 0, 0x00310009, 0, 1, 0, 0};
     uint8_t unique[1] = {0}, registers[4] = {1, 2, 3, 4}, ram[8] = {0};
-    uint8_t of_unique[1] = {0}, of_registers[4] = {1, 0, 0, 0}, of_ram[8] = {0};
+    uint8_t of_unique[1] = {0}, of_registers[4] = {1, 0, 1, 0}, of_ram[8] = {0};
     uint64_t log[1] = {8};
     uint64_t report[6] = {7, 7, 7, 7, 7, 9};
     expect("labelled step", undrelvoa_labelled_step(little1, 5, list, 10, 0, unique, 1, registers, 4, ram, 8, of_unique, 1, of_registers, 4, of_ram, 8, log, 1, report, 6), 0);
@@ -100,18 +100,18 @@ static void labelled_runs(void) {
     expect("next index", report[1], 1);
     expect("byte written", registers[2], 2);
     expect("label before", of_registers[0], 1);
-    expect("label written", of_registers[1], 1);
-    expect("label written", of_registers[2], 1);
+    expect("secret label written", of_registers[1], 1);
+    expect("public label written", of_registers[2], 0);
     expect("label after", of_registers[3], 0);
     expect("labelled run", undrelvoa_labelled_run(little1, 5, list, 10, 1, 9, unique, 1, registers, 4, ram, 8, of_unique, 1, of_registers, 4, of_ram, 8, log, 1, report, 6), 0);
     expect("secret destination", report[0], 31);
     expect("where it stopped", report[1], 1);
     expect("not executed", report[2], 0);
     expect("no value", report[4], 0);
-    of_registers[2] = 0;
+    of_registers[1] = 0;
     expect("labelled run", undrelvoa_labelled_run(little1, 5, list, 10, 1, 9, unique, 1, registers, 4, ram, 8, of_unique, 1, of_registers, 4, of_ram, 8, log, 1, report, 6), 0);
     expect("exit", report[0], 1);
-    expect("destination", report[4], 2);
+    expect("destination", report[4], 1);
     expect("the word after the report", report[5], 9);
     expect("labelled run", undrelvoa_labelled_run(little1, 5, list, 10, 0, 9, unique, 1, registers, 4, ram, 8, of_unique, 1, of_registers, 3, of_ram, 8, log, 1, report, 6), 0);
     expect("a label too few", report[0], 11);
@@ -362,15 +362,17 @@ static void wordsizes(void) {
     expect("its first byte", unique[0], 0x12);
     expect("its last byte", unique[2], 0x56);
     expect("labelled run", undrelvoa_labelled_run(words, 5, list, 5, 0, 9, unique, 3, NULL, 0, ram, 12, of_unique, 3, NULL, 0, of_ram, 12, log, 1, report, 5), 0);
-    expect("its first label", of_unique[0], UNDRELVOA_SECRET);
-    expect("its last label", of_unique[2], UNDRELVOA_SECRET);
+    expect("its first label", of_unique[0], UNDRELVOA_PUBLIC);
+    expect("its second label", of_unique[1], UNDRELVOA_SECRET);
+    expect("its last label", of_unique[2], UNDRELVOA_PUBLIC);
     list[0] = UNDRELVOA_OPERATION_HEAD(UNDRELVOA_STORE, UNDRELVOA_ABSENT, byte, byte, unique_word);
     list[3] = 1;
     expect("labelled step", undrelvoa_labelled_step(words, 5, list, 5, 0, unique, 3, NULL, 0, ram, 12, of_unique, 3, NULL, 0, of_ram, 12, log, 1, report, 5), 0);
     expect("the second word", log[0], 3);
     expect("its first byte", ram[3], 0x12);
-    expect("its first label", of_ram[3], UNDRELVOA_SECRET);
-    expect("its last label", of_ram[5], UNDRELVOA_SECRET);
+    expect("its first label", of_ram[3], UNDRELVOA_PUBLIC);
+    expect("its second label", of_ram[4], UNDRELVOA_SECRET);
+    expect("its last label", of_ram[5], UNDRELVOA_PUBLIC);
     expect("the byte at the pointer", ram[1], 0);
     expect("the label at the pointer", of_ram[1], UNDRELVOA_PUBLIC);
     list[3] = 4;

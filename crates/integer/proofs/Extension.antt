@@ -1,15 +1,15 @@
 -- INT_SEXT byte by byte: the bytes of input0, and above them its sign bit in each bit.
-use Prim.Native.Nat.{ℕ, suc, _+_, _-_, _*_, _/_, _^_, _≤_, _<_}
-use native.Mathlib.Nat.{pow-suc, div-lt-iff-lt-mul, le-div-iff-mul-le}
+use Prim.Native.Nat.{ℕ, _+_, _-_, _*_, _/_, _^_, _≤_, _<_}
+use native.Mathlib.Nat.{div-lt-iff-lt-mul, le-div-iff-mul-le}
 use native.Mathlib.Omega.{arith}
-use mathlib.Core.Path.{_≡_, refl, sym, ap, _∙_}
+use mathlib.Core.Path.{_≡_, refl, ap, _∙_}
 use mathlib.Core.Bool.{Bool, true, false, cond}
 use borrow.Author.Tests.{ltb-true, ltb-false, lt-ltb, le-ltb}
 use lib.Dec.{ltb}
 use lib.Pow.{high-ones}
 use Rattle.word.specs.Sum.{digit}
-use Rattle.word.proofs.Powers.{pow-bits, size-pos}
-use Rattle.word.proofs.Shifts.{digit-past, digit-top, digit-low, digit-high, digit-ones}
+use Rattle.word.proofs.Powers.{pow-bits, size-pos, size-less}
+use Rattle.word.proofs.Shifts.{digit-past, digit-top, digit-joined, digit-ones}
 use Rattle.integer.specs.Integers.{signed, negative}
 use Rattle.integer.specs.Operations.{intSext}
 use Rattle.integer.proofs.TwosComplement.{signed-low, signed-high}
@@ -20,18 +20,15 @@ module _ (size size0 a : ℕ) (some : 1 ≤ size0) (larger : size0 < size) (belo
   abbrev p : ℕ
   p = 256 ^ (size0 - 1)
 
-  whole : 256 ^ size0 ≡ p * 256
-  whole = let e : size0 ≡ suc (size0 - 1) = omega arith in ap (λ (n : ℕ). 256 ^ n) e ∙ pow-suc 256 (size0 - 1)
-
   top-is : digit 256 a (size0 - 1) ≡ a / p
   top-is = digit-top size0 a some below
 
   -- input0 is not negative where the top byte is below 128
   top-low : 2 * a < 256 ^ size0 → ltb (digit 256 a (size0 - 1)) 128 ≡ true
-  top-low h = rw top-is (lt-ltb _ _ (div-lt-iff-lt-mul (size-pos (size0 - 1)) .1 (omega (arith, whole))))
+  top-low h = rw top-is (lt-ltb _ _ (div-lt-iff-lt-mul (size-pos (size0 - 1)) .1 (omega (arith, size-less size0 some))))
 
   top-high : 256 ^ size0 ≤ 2 * a → ltb (digit 256 a (size0 - 1)) 128 ≡ false
-  top-high h = rw top-is (le-ltb _ _ (le-div-iff-mul-le (size-pos (size0 - 1)) .1 (omega (arith, whole))))
+  top-high h = rw top-is (le-ltb _ _ (le-div-iff-mul-le (size-pos (size0 - 1)) .1 (omega (arith, size-less size0 some))))
 
   -- the fill of a negative one
   ones : 256 ^ size - 256 ^ size0 ≡ (256 ^ (size - size0) - 1) * 256 ^ size0
@@ -58,10 +55,9 @@ module _ (size size0 a : ℕ) (some : 1 ≤ size0) (larger : size0 < size) (belo
       by true e true q = ap (λ (x : ℕ). digit 256 x k) (low (ltb-true _ _ e))
       by true e false q =
           ap (λ (x : ℕ). digit 256 x k) (low (ltb-true _ _ e)) ∙ digit-past size0 a k below (ltb-false k size0 q) ∙ rw (top-low (ltb-true _ _ e)) refl
-      by false e true q =
-          ap (λ (x : ℕ). digit 256 x k) (high (ltb-false _ _ e)) ∙ digit-low size0 (256 ^ (size - size0) - 1) a below k (ltb-true k size0 q)
-      by false e false q =
-          let l : size0 + (k - size0) ≡ k = omega (arith, ltb-false k size0 q) in
-          ap (λ (x : ℕ). digit 256 x k) (high (ltb-false _ _ e)) ∙ ap (digit 256 ((256 ^ (size - size0) - 1) * 256 ^ size0 + a)) (sym l)
-          ∙ digit-high size0 (256 ^ (size - size0) - 1) a below (k - size0) ∙ digit-ones (size - size0) (k - size0) (omega (arith, ltb-false k size0 q))
-          ∙ rw (top-high (ltb-false _ _ e)) refl
+      by false e u q =
+          ap (λ (x : ℕ). digit 256 x k) (high (ltb-false _ _ e)) ∙ digit-joined size0 (256 ^ (size - size0) - 1) a below k ∙ rw (q, top-high (ltb-false _ _ e)) (ones-above u q)
+        where
+          ones-above : (u : Bool) → ltb k size0 ≡ u → cond u (digit 256 a k) (digit 256 (256 ^ (size - size0) - 1) (k - size0)) ≡ cond u (digit 256 a k) 255
+          ones-above true q = refl
+          ones-above false q = digit-ones (size - size0) (k - size0) (omega (arith, ltb-false k size0 q))

@@ -26,7 +26,7 @@ use Rattle.machine.specs.Run.{Stop, Decision, Position, Ended, Stepped, 
 use Rattle.machine.specs.Run.{applyDecision, executeAs, execute, stepped, continued}
 use Rattle.machine.specs.Conditions.{hasSecret, leaks, exceedsSpace, taken, branchTaken, outOfBounds, dividesByZero, writesLog, lowPart, logWordOf, exits}
 use Rattle.machine.specs.Conditions.{destination, nextIndex, destinationBytes, becomesSecret, valueComputed, valueMoved, valueWritten, positionAfter, exactStepWith}
-use Rattle.machine.specs.Conditions.{labelMoved, exactLabels, operand1, labelsAfter, exactStep, exactStepWithin, Words, ExactConditions}
+use Rattle.machine.specs.Conditions.{moving, labelMoved, exactLabels, operand1, labelsAfter, exactStep, exactStepWithin, Words, ExactConditions}
 use Rattle.operation.specs.Rules.{accesses, namesSpace, isDestination, breaksPlace, breaksSize, branches, jumps, relativeTarget}
 use Rattle.operation.proofs.Targets.{wrapping}
 use lib.IntN.{pos}
@@ -146,6 +146,15 @@ no-division n f5 f6 f7 f8 = by (leb 35 n && leb n 38) refl
         let n8 : n ≡ 38 → ⊥ = eqb-false n 38 f8 in
         absurd (let z : ⊥ = omega arith in z)
     by false e = refl
+
+-- what moves no bytes is no COPY, LOAD or STORE
+pub no-move : (n : ℕ) → member n moving ≡ false → (eqb n 1 ≡ false) × (eqb n 2 ≡ false) × (eqb n 3 ≡ false)
+unfolding member
+no-move n e =
+    let n1 = neither (eqb n 1) (member n (2 ∷ 3 ∷ 10 ∷ 11 ∷ 19 ∷ 20 ∷ [])) e in
+    let n2 = neither (eqb n 2) (member n (3 ∷ 10 ∷ 11 ∷ 19 ∷ 20 ∷ [])) (n1 .1) in
+    let n3 = neither (eqb n 3) (member n (10 ∷ 11 ∷ 19 ∷ 20 ∷ [])) (n2 .1) in
+    (n1 .0, n2 .0, n3 .0)
 
 -- ---- opcodes that the conditions do not tell apart
 
@@ -579,19 +588,10 @@ module _ (program : Program) (op : Operation) (at : Position) (labels m : Memory
     unfolding operand1 valueWritten valueMoved valueComputed moves dropped member
     bytes-store e = moved-whole (program .settings) op m (op .input2 .size) (op .input2) (rw e refl) bytes (f .fits2) (rw e refl) (rw e refl) ∙ rw e refl
 
-    -- what computes a number is no COPY, LOAD or STORE
-    others : moves op ≡ false → (eqb (op .opcode) 1 ≡ false) × (eqb (op .opcode) 2 ≡ false) × (eqb (op .opcode) 3 ≡ false)
-    unfolding moves member
-    others e =
-        let n1 = neither (eqb (op .opcode) 1) (member (op .opcode) (2 ∷ 3 ∷ 10 ∷ 11 ∷ 19 ∷ 20 ∷ [])) e in
-        let n2 = neither (eqb (op .opcode) 2) (member (op .opcode) (3 ∷ 10 ∷ 11 ∷ 19 ∷ 20 ∷ [])) (n1 .1) in
-        let n3 = neither (eqb (op .opcode) 3) (member (op .opcode) (10 ∷ 11 ∷ 19 ∷ 20 ∷ [])) (n2 .1) in
-        (n1 .0, n2 .0, n3 .0)
-
     bytes-computed : moves op ≡ false → Bytes (op .output .size) (op .input0 ∷ op .input1 ∷ [])
     unfolding operand1 valueWritten valueMoved valueComputed moves member
     bytes-computed e =
-        calculated (program .settings) op m (op .output .size) e ∙ (let o = others e in rw (o .0, o .1, o .2) refl)
+        calculated (program .settings) op m (op .output .size) e ∙ (let o = no-move (op .opcode) e in rw (o .0, o .1, o .2) refl)
 
     bytes-piece : op .opcode ≡ 10 → Bytes (op .output .size) (op .input1 ∷ op .input0 ∷ [])
     unfolding operand1 valueWritten valueMoved valueComputed result integerResults lookup piece moves dropped member branches
@@ -637,10 +637,10 @@ module _ (program : Program) (op : Operation) (at : Position) (labels m : Memory
     labels-sext e = told-extended (program .settings) op labels b (op .output .size) (rw e refl) e (λ k. rw e refl)
 
     labels-computed : moves op ≡ false → Labels (op .output .size) (op .input0 ∷ op .input1 ∷ [])
-    unfolding becomesSecret
+    unfolding becomesSecret moves
     labels-computed e =
         told-whole (program .settings) op labels b (op .output .size) (op .input0 ∷ op .input1 ∷ []) e
-        (let o = others e in two-secret labels (op .input0) (op .input1) ∙ rw (o .1, o .2) (sym (or-false _)))
+        (let o = no-move (op .opcode) e in two-secret labels (op .input0) (op .input1) ∙ rw (o .1, o .2) (sym (or-false _)))
 
     pub meets : Meets
     unfolding classOf kindOf branches jumps divides accesses member moves hasPlace outputs inputs rowOf opcodes free divisions indirectBranches directBranches conditionalBranch load store
@@ -702,11 +702,11 @@ module _ (opcode : ℕ) (v : Varnode) where
   is-constant p e = eqb-true (v .space) 1 (not-false (eqb (v .space) 1) (rw e at p))
 
 -- rules 22 and 25, of INT_SEXT
-extends : (opcode : ℕ) → opcode ≡ 20 → hasPlace opcode 1 ≡ true
+pub extends : (opcode : ℕ) → opcode ≡ 20 → hasPlace opcode 1 ≡ true
 unfolding hasPlace outputs inputs rowOf opcodes
 extends opcode e = rw e refl
 
-larger : (addressSize opcode size size0 size1 : ℕ) → opcode ≡ 20 → breaksSize addressSize opcode size size0 size1 ≡ false → size0 < size
+pub larger : (addressSize opcode size size0 size1 : ℕ) → opcode ≡ 20 → breaksSize addressSize opcode size size0 size1 ≡ false → size0 < size
 unfolding breaksSize sizesAgree agree sizesOf rowOf opcodes
 larger addressSize opcode size size0 size1 e h = ltb-true size0 size (not-false (ltb size0 size) (rw e at h))
 

@@ -8,7 +8,7 @@ use lib.Dec.{eqb, ltb}
 use lib.ListN.{getD, replicate, length-replicate, getD-replicate}
 use Rattle.word.specs.Sum.{sum, tabulate, digit}
 use Rattle.word.specs.Word.{part, significance, valueOf, bytesOf}
-use Rattle.word.proofs.Sums.{tabulate-at, tabulate-length}
+use Rattle.word.proofs.Sums.{tabulate-at, tabulate-length, tabulate-same}
 use Rattle.integer.specs.Operations.{flag}
 use Rattle.integer.proofs.Booleans.{neither}
 use Rattle.arithmetic.specs.Opcodes.{member}
@@ -30,7 +30,6 @@ use Rattle.machine.specs.FinerLabels.{baseLabels, NoMoreSecret, FinerLab
 use Rattle.machine.proofs.Cases.{either, either-equal}
 use Rattle.machine.proofs.Pointwise.{Each, Spaces, each-at, each-from, spaces-space, spaces-written}
 use Rattle.machine.proofs.Secrecy.{flag-zero}
-use Rattle.machine.proofs.Labels.{same-label}
 use Rattle.machine.proofs.Conditions.{formed-at, meets}
 
 -- ---- one byte
@@ -124,7 +123,7 @@ written-finer big labels op b space i e =
 written-whole : (big : Bool) (labels : Memory) (op : Operation) (b : ℕ) → member (op .opcode) moving ≡ false
     → labelsAfter big labels op b ≡ baseLabels labels op b
 unfolding labelsAfter exactLabels labelWritten baseLabels
-written-whole big labels op b q = rw (q, same-label (destinationBytes op b .size) (flag (becomesSecret labels op b))) refl
+written-whole big labels op b q = rw (q, tabulate-same (destinationBytes op b .size) (flag (becomesSecret labels op b))) refl
 
 -- a step that goes on has these labels
 data Marks (after : Memory) : Stepped → Type 0 where

@@ -6,10 +6,10 @@ use mathlib.Core.Bool.{Bool, true, false, cond}
 use mathlib.Core.List.{List, [], _∷_, append-nil}
 use borrow.Author.Tests.{eqb-true, ltb-true, ltb-false, lt-ltb}
 use lib.Dec.{ltb, eqb}
-use lib.ListN.{length, getD, replicate, length-replicate, getD-replicate}
-use Rattle.word.specs.Sum.{tabulate, digit}
+use lib.ListN.{length, getD}
+use Rattle.word.specs.Sum.{digit}
 use Rattle.word.specs.Word.{part, significance, valueOf, bytesOf}
-use Rattle.word.proofs.Sums.{tabulate-is, tabulate-past}
+use Rattle.word.proofs.Sums.{tabulate-past, tabulate-same}
 use Rattle.word.proofs.Laws.{significance-lt, significance-twice, part-at, part-bytes, value-lt, written-read}
 use Rattle.integer.specs.Operations.{flag}
 use Rattle.operation.specs.declared.layout.Settings.{Settings}
@@ -18,6 +18,7 @@ use Rattle.machine.specs.Program.{bigEndian}
 use Rattle.machine.specs.Memory.{Memory, OfBytes, spaceOf, bytesAt, ordered}
 use Rattle.machine.specs.Effect.{Operation, dropped, moves, origin, entryFrom, labelsOf, labelFill, secret, labelsWritten}
 use Rattle.machine.specs.Conditions.{labelOf, labelJoined, labelExtended, labelMoved, becomesSecret, labelWritten, exactLabels}
+use Rattle.machine.proofs.Cases.{either-equal}
 use Rattle.machine.proofs.Moves.{length-ordered, ordered-at, bytes-count, ordered-number, entry, joined-at, taken, extended, moved-is}
 
 -- ---- the labels of a varnode
@@ -35,19 +36,15 @@ constant-at : (labels : Memory) (v : Varnode) (i : ℕ) → v .space ≡ 1 → g
 unfolding bytesAt spaceOf
 constant-at labels v i e = rw e (none-at (v .offset) (v .size) i)
 
-either-zero : (t : Bool) (n : ℕ) → n ≡ 0 → cond t n 0 ≡ 0
-either-zero true n e = e
-either-zero false n e = refl
-
 module _ (big : Bool) (labels : Memory) (v : Varnode) where
-  pub label-at : (k : ℕ) → getD (ordered big (bytesAt labels v)) k 0 ≡ labelOf big labels v k
+  label-at : (k : ℕ) → getD (ordered big (bytesAt labels v)) k 0 ≡ labelOf big labels v k
   unfolding labelOf
   label-at k = ordered-at big (bytesAt labels v) k ∙ rw (bytes-count labels v) (by (eqb (v .space) 1) refl)
     where
       by : (t : Bool) → eqb (v .space) 1 ≡ t
           → cond (ltb k (v .size)) (getD (bytesAt labels v) (significance big (v .size) k) 0) 0
           ≡ cond t 0 (cond (ltb k (v .size)) (getD (bytesAt labels v) (significance big (v .size) k) 0) 0)
-      by true e = either-zero (ltb k (v .size)) _ (constant-at labels v _ (eqb-true (v .space) 1 e))
+      by true e = either-equal (ltb k (v .size)) (constant-at labels v _ (eqb-true (v .space) 1 e)) refl
       by false e = refl
 
   -- as they lie in memory
@@ -77,10 +74,6 @@ word-bytes labels v h =
     ∙ written-read false (bytesAt labels v) (part-bytes (spaceOf labels (v .space)) (v .offset) (v .size) (h (v .space)))
 
 -- ---- the labels written
-
--- one label for all
-pub same-label : (n c : ℕ) → tabulate n (λ i. c) ≡ replicate n c
-same-label n c = tabulate-is n (λ i. c) (replicate n c) (length-replicate n c) (λ i l. sym (getD-replicate n i c 0 l))
 
 module _ (settings : Settings) (op : Operation) (labels : Memory) (b n : ℕ) where
   abbrev big : Bool
@@ -129,4 +122,4 @@ module _ (settings : Settings) (op : Operation) (labels : Memory) (b n : ℕ) wh
   pub told-whole : (vs : List Varnode) → moves op ≡ false → secret labels vs ≡ becomesSecret labels op b
       → labelsWritten settings op n vs labels ≡ exactLabels big labels op b n
   unfolding labelsWritten exactLabels labelWritten moves
-  told-whole vs e h = rw (e, h) (sym (same-label n (flag (becomesSecret labels op b))))
+  told-whole vs e h = rw (e, h) (sym (tabulate-same n (flag (becomesSecret labels op b))))

@@ -1,4 +1,4 @@
--- What a move writes, byte by byte: the bytes of a number, and the labels that the exact conditions tell.
+-- What a move writes, entry by entry, and that its bytes are those of a number.
 use Prim.Native.Nat.{ℕ, _+_, _-_, _*_, _/_, _%_, _^_, _≤_, _<_}
 use native.Mathlib.Nat.{zero-add, div-one}
 use native.Mathlib.Omega.{arith}
@@ -13,7 +13,7 @@ use Rattle.word.specs.Sum.{tabulate, digit}
 use Rattle.word.specs.Word.{significance, valueOf, bytesOf}
 use Rattle.word.proofs.Sums.{tabulate-is, tabulate-at, tabulate-past, tabulate-length}
 use Rattle.word.proofs.Laws.{significance-lt, significance-twice, part-length, part-bytes, bytes-length, bytes-at, written-read}
-use Rattle.word.proofs.Shifts.{bytes-mod, digit-past, digit-div, digit-low, digit-high}
+use Rattle.word.proofs.Shifts.{bytes-mod, digit-past, digit-div, digit-joined}
 use Rattle.integer.specs.Operations.{intSext}
 use Rattle.integer.proofs.Extension.{sext-digit}
 use Rattle.operation.specs.declared.layout.Settings.{Settings}
@@ -111,14 +111,14 @@ module _ (op : Operation) (fill : ℕ → ℕ) (entries : List ℕ) (k : ℕ) wh
       by true = refl
       by false = refl
 
--- ---- the bytes written are those of a number
-
 pub moved-is : (big : Bool) (op : Operation) (n : ℕ) (fill : ℕ → ℕ) (entries : List ℕ) (f : ℕ → ℕ)
     → ((k : ℕ) → k < n → entryFrom fill entries (origin op (length entries) k) ≡ f k) → moved big op n fill entries ≡ tabulate n (λ i. f (significance big n i))
 unfolding moved
 moved-is big op n fill entries f h =
     tabulate-is n _ (tabulate n (λ i. f (significance big n i))) (tabulate-length n _)
     (λ i l. h (significance big n i) (significance-lt big n i l) ∙ sym (tabulate-at n (λ j. f (significance big n j)) i l))
+
+-- ---- the bytes written are those of a number
 
 module _ (settings : Settings) (op : Operation) (m : Memory) (n x : ℕ) (vs : List Varnode) (e : moves op ≡ true) where
   -- byte by byte
@@ -178,11 +178,9 @@ module _ (settings : Settings) (op : Operation) (m : Memory) (u v : Varnode) (b 
   moved-both n e n20 d hu hv =
       written-is settings op m n (x * 256 ^ v .size + y) (v ∷ u ∷ []) e
       (λ k l. taken op signFill (digitsOf settings m (v ∷ u ∷ [])) k n20
-      ∙ rw (d, zero-add k, two-sources) (joined-at (bytesOf false (v .size) y) (bytesOf false (u .size) x) k ∙ rw bytes-length (by k (ltb k (v .size)) refl)))
+      ∙ rw (d, zero-add k, two-sources) (joined-at (bytesOf false (v .size) y) (bytesOf false (u .size) x) k ∙ rw bytes-length (by k (ltb k (v .size)) refl) ∙ sym (digit-joined (v .size) x y hv k)))
     where
       by : (k : ℕ) (t : Bool) → ltb k (v .size) ≡ t
-          → cond t (getD (bytesOf false (v .size) y) k 0) (getD (bytesOf false (u .size) x) (k - v .size) 0) ≡ digit 256 (x * 256 ^ v .size + y) k
-      by k true q = entry (v .size) y k hv ∙ sym (digit-low (v .size) x y hv k (ltb-true k (v .size) q))
-      by k false q =
-          let l : v .size + (k - v .size) ≡ k = omega (arith, ltb-false k (v .size) q) in
-          entry (u .size) x (k - v .size) hu ∙ sym (digit-high (v .size) x y hv (k - v .size)) ∙ ap (digit 256 (x * 256 ^ v .size + y)) l
+          → cond t (getD (bytesOf false (v .size) y) k 0) (getD (bytesOf false (u .size) x) (k - v .size) 0) ≡ cond t (digit 256 y k) (digit 256 x (k - v .size))
+      by k true q = entry (v .size) y k hv
+      by k false q = entry (u .size) x (k - v .size) hu

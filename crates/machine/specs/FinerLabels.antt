@@ -1,4 +1,4 @@
--- Labels that follow the bytes: never more secret than the base's rule, and known answers.
+-- Labels that follow the bytes: never more secret than the base's rule (paper 01), which all else keeps; and known answers.
 use Prim.Native.Nat.{ℕ}
 use mathlib.Core.Bool.{false}
 use mathlib.Core.List.{List, [], _∷_}
@@ -44,7 +44,7 @@ pub record FinerLabels : Type 0 where
       → verdict (program .settings) (lengthsOf m) (program .list) .ending ≡ 0 → stepped program at labels m ≡ Stepped.going after labels′ m′
       → (let op = operationAt (program .list) (at .index) in
       member (op .opcode) moving ≡ false → labels′ ≡ baseLabels labels op (operand1 program m op))
-  -- COPY, LOAD and STORE of the bytes 0 and 1 to 2 and 3: the label goes with each byte, in both orders. The base's rule marked both.
+  -- COPY, LOAD and STORE of the bytes 0 and 1 to 2 and 3: the label goes with each byte, in both orders. The base's rule marked both, or none.
   pub copied : (Relabels 0 copyOfTwo (1 ∷ 0 ∷ 0 ∷ 1 ∷ []) (1 ∷ 0 ∷ 1 ∷ 0 ∷ [])) × (Relabels 1 copyOfTwo (1 ∷ 0 ∷ 0 ∷ 1 ∷ []) (1 ∷ 0 ∷ 1 ∷ 0 ∷ []))
   pub base : baseLabels (spaces [] (1 ∷ 0 ∷ 0 ∷ 1 ∷ []) []) (operationAt copyOfTwo 0) 0 ≡ spaces [] (1 ∷ 0 ∷ 1 ∷ 1 ∷ []) []
   pub basePublic : baseLabels (spaces [] (0 ∷ 0 ∷ 1 ∷ 1 ∷ []) []) (operationAt copyOfTwo 0) 0 ≡ spaces [] (0 ∷ 0 ∷ 0 ∷ 0 ∷ []) []

@@ -1,4 +1,4 @@
--- The labels of a varnode as one number: it is 0 where each label is.
+-- The labels of a varnode as one number: it is 0 where each label is; one label in eight bytes; bytes turned round.
 use Prim.Native.Nat.{ℕ, zero, suc, _+_, _*_, _^_, _≤_, _<_}
 use mathlib.Core.Path.{_≡_, refl, sym, ap, _∙_}
 use mathlib.Core.Bool.{Bool, true, false, not}
@@ -34,15 +34,10 @@ public-tabulate (suc n) f h (suc i) l = public-tabulate n (λ k. f (suc k)) (nei
 
 -- ---- a number whose digits are all 0
 
-sum-zeros : (n : ℕ) (f : ℕ → ℕ) → ((i : ℕ) → i < n → f i ≡ 0) → sum n (λ i. f i * 256 ^ i) ≡ 0
-unfolding sum
-sum-zeros zero f h = refl
-sum-zeros (suc n) f h = rw (sum-zeros n f (λ i l. h i (omega arith)), h n (omega arith)) (omega (arith, zero-mul (256 ^ n)))
-
-sum-zero : (n : ℕ) (f : ℕ → ℕ) → ((i : ℕ) → f i ≡ 0) → sum n f ≡ 0
+sum-zero : (n : ℕ) (f : ℕ → ℕ) → ((i : ℕ) → i < n → f i ≡ 0) → sum n f ≡ 0
 unfolding sum
 sum-zero zero f h = refl
-sum-zero (suc n) f h = rw (sum-zero n f h, h n) refl
+sum-zero (suc n) f h = rw (sum-zero n f (λ i l. h i (omega arith)), h n (omega arith)) refl
 
 factor-zero : (a k : ℕ) → a * 256 ^ k ≡ 0 → a ≡ 0
 factor-zero zero k e = refl
@@ -74,7 +69,7 @@ number-secret labels v = rw (← (gathered-all false (spaceOf labels (v .space))
     by true e true q = sym (tabulate-public (v .size) label (zeros-sum (v .size) label (eqb-true number 0 e))) ∙ q
     by true e false q = refl
     by false e true q = refl
-    by false e false q = sym (eq-eqb number 0 (sum-zeros (v .size) label (public-tabulate (v .size) label q))) ∙ e
+    by false e false q = sym (eq-eqb number 0 (sum-zero (v .size) (λ i. label i * 256 ^ i) (λ i l. rw (public-tabulate (v .size) label q i l) (zero-mul (256 ^ i))))) ∙ e
 
 -- a constant has no bytes in a space, and an absent varnode has none at all
 no-space : (labels : Memory) (space : ℕ) → space < 2 → spaceOf labels space ≡ []
@@ -85,7 +80,7 @@ pub constant-labels : (big : Bool) (labels : Memory) (v : Varnode) → v .space 
 unfolding bytesAt gathered
 constant-labels big labels v h =
     rw (no-space labels (v .space) h, ← (gathered-all big [] (v .offset) (v .size)))
-    (sum-zero (v .size) (λ i. getD [] (v .offset + i) 0 * 256 ^ significance big (v .size) i) (λ i. zero-mul (256 ^ significance big (v .size) i)))
+    (sum-zero (v .size) (λ i. getD [] (v .offset + i) 0 * 256 ^ significance big (v .size) i) (λ i l. zero-mul (256 ^ significance big (v .size) i)))
 
 -- ---- the same label in eight bytes
 

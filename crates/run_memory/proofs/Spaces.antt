@@ -24,7 +24,7 @@ module _ (m : Memory) (v : Varnode) (n : ℕ) (e : v .space ≡ n) where
   pub placed-in : 2 ≤ n → Placed m v → v .offset + v .size ≤ length (spaceOf m n)
   placed-in h p = subst (λ (k : ℕ). v .offset + v .size ≤ length (spaceOf m k)) e (p .within (rw e h))
 
-  pub value-in : 2 ≤ n → (settings : Settings) → valueAt settings m v ≡ valueOf (bigEndian settings) (part (spaceOf m n) (v .offset) (v .size))
+  value-in : 2 ≤ n → (settings : Settings) → valueAt settings m v ≡ valueOf (bigEndian settings) (part (spaceOf m n) (v .offset) (v .size))
   unfolding valueAt bytesAt
   value-in h settings = rw (e, ne-eqb n 1 (λ z. omega arith))
 

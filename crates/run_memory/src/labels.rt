@@ -70,7 +70,10 @@ pub fn in_memory(big: bool, size: usize, n: u64) -> u64
     requires { ⌜ size ≤ 8 ⌝ }
     ensures { λ r. ⌜ bytesOf false size r ≡ bytesOf big size n ⌝ }
 {
+    if !big {
+        return n;
+    }
     let mut bytes = [0u8; 8];
-    scatter(big, &mut bytes, 0, size, n);
+    scatter(true, &mut bytes, 0, size, n);
     gather(false, &bytes, 0, size)
 }

@@ -4,8 +4,8 @@ use native.Mathlib.Omega.{arith}
 use native.Mathlib.Nat.{mod-lt, lt-of-lt-of-le}
 use mathlib.Core.Path.{_≡_, refl, sym, ap, _∙_}
 use mathlib.Core.Bool.{Bool, true, false, cond, _||_, true≢false}
-use mathlib.Core.List.{List, [], _∷_}
-use borrow.Author.Tests.{ltb-true, ltb-false, eqb-true, ne-eqb, not-false}
+use mathlib.Core.List.{List}
+use borrow.Author.Tests.{ltb-false, eqb-true, ne-eqb, not-false}
 use lib.Dec.{eqb, ltb}
 use lib.ListN.{length, getD}
 use Rattle.word.specs.Sum.{digit}
@@ -14,10 +14,10 @@ use Rattle.word.proofs.Sums.{tabulate-is}
 use Rattle.word.proofs.Laws.{significance-lt, bytes-length, bytes-at}
 use Rattle.word.proofs.Tests.{by-cond}
 use Rattle.word.proofs.Powers.{pow-bits, size-pos, size-most}
-use Rattle.word.proofs.Shifts.{digit-top, digit-mod, digit-div, digit-low, digit-high}
+use Rattle.word.proofs.Shifts.{digit-top, digit-mod, digit-div, digit-joined}
 use Rattle.integer.specs.Operations.{flag, piece, subpiece}
 use Rattle.integer.proofs.Whole.{piece-lt}
-use Rattle.integer.proofs.Booleans.{or-false, neither}
+use Rattle.integer.proofs.Booleans.{or-false}
 use Rattle.arithmetic.specs.Opcodes.{firstInteger, mostInputs, member, opcodes, rowOf, outputs, inputs, sizesOf, hasPlace}
 use Rattle.arithmetic.specs.Operands.{agree, sizesAgree}
 use Rattle.operation.specs.declared.layout.Varnode.{Varnode}
@@ -26,7 +26,7 @@ use Rattle.operation.specs.Rules.{breaksSize}
 use Rattle.machine.specs.Memory.{Memory, OfBytes, bytesAt}
 use Rattle.machine.specs.Effect.{Operation, operationAt, pointee}
 use Rattle.machine.specs.Conditions.{hasSecret, destinationBytes, labelOf, labelJoined, labelExtended, moving, labelMoved, becomesSecret, labelWritten, exactLabels}
-use Rattle.machine.proofs.Conditions.{when}
+use Rattle.machine.proofs.Conditions.{when, no-move, extends, larger}
 use Rattle.machine.proofs.Moves.{bytes-count}
 use Rattle.machine.proofs.Labels.{label-either, label-in-memory, word-fits, word-bytes, word-digit}
 use Rattle.run_memory.specs.Placed.{Placed}
@@ -56,15 +56,13 @@ module _ (size size0 a : ℕ) (some : 1 ≤ size0) (larger : size0 < size) (most
     pub extended-digits : (r : ℕ) → r ≡ piece size0 fill a → (k : ℕ) → k < size
         → digit 256 r k ≡ cond (ltb k size0) (digit 256 a k) (digit 256 a (size0 - 1))
     unfolding piece
-    extended-digits r e k h = ap (λ (n : ℕ). digit 256 n k) e ∙ by (ltb k size0) refl
+    extended-digits r e k h = ap (λ (n : ℕ). digit 256 n k) e ∙ digit-joined size0 fill a below k ∙ by (ltb k size0) refl
       where
-        by : (t : Bool) → ltb k size0 ≡ t → digit 256 (fill * 256 ^ size0 + a) k ≡ cond t (digit 256 a k) (digit 256 a (size0 - 1))
-        by true q = digit-low size0 fill a below k (ltb-true k size0 q)
+        by : (t : Bool) → ltb k size0 ≡ t → cond t (digit 256 a k) (digit 256 fill (k - size0)) ≡ cond t (digit 256 a k) (digit 256 a (size0 - 1))
+        by true q = refl
         by false q =
-            let l : k ≡ size0 + (k - size0) = omega (arith, ltb-false k size0 q) in
-            ap (digit 256 (fill * 256 ^ size0 + a)) l ∙ digit-high size0 fill a below (k - size0)
-            ∙ ap (λ (n : ℕ). digit 256 n (k - size0)) cut ∙ digit-mod each (size - size0) (k - size0) (omega arith)
-            ∙ same (k - size0) (omega arith) ∙ top-is
+            let l : k - size0 < size - size0 = omega (arith, ltb-false k size0 q) in
+            ap (λ (n : ℕ). digit 256 n (k - size0)) cut ∙ digit-mod each (size - size0) (k - size0) l ∙ same (k - size0) (omega arith) ∙ top-is
 
 -- ---- what a move makes of words
 
@@ -80,13 +78,7 @@ module _ (opcode size size0 size1 a b : ℕ) (w : MovableWords opcode size size0
 
   pub moved-piece : opcode ≡ 10 → (drops r : ℕ) → r ≡ piece size1 a b → (k : ℕ) → k < size → digit 256 r k ≡ movedByte opcode size0 size1 drops a b k
   unfolding piece movedByte
-  moved-piece o drops r e k h = ap (λ (n : ℕ). digit 256 n k) e ∙ rw o (by (ltb k size1) refl)
-    where
-      by : (t : Bool) → ltb k size1 ≡ t → digit 256 (a * 256 ^ size1 + b) k ≡ cond t (digit 256 b k) (digit 256 a (k - size1))
-      by true q = digit-low size1 a b (w .below1) k (ltb-true k size1 q)
-      by false q =
-          let l : k ≡ size1 + (k - size1) = omega (arith, ltb-false k size1 q) in
-          ap (digit 256 (a * 256 ^ size1 + b)) l ∙ digit-high size1 a b (w .below1) (k - size1)
+  moved-piece o drops r e k h = ap (λ (n : ℕ). digit 256 n k) e ∙ rw o (digit-joined size1 a b (w .below1) k)
 
   pub moved-subpiece : opcode ≡ 11 → (drops r : ℕ) → r ≡ subpiece size a drops → (k : ℕ) → k < size → digit 256 r k ≡ movedByte opcode size0 size1 drops a b k
   unfolding subpiece movedByte
@@ -199,13 +191,6 @@ late-no-move n l =
     )
     refl
 
-no-move : (n : ℕ) → member n moving ≡ false → (eqb n 2 ≡ false) × (eqb n 3 ≡ false)
-unfolding member
-no-move n e =
-    let n1 = neither (eqb n 1) (member n (2 ∷ 3 ∷ 10 ∷ 11 ∷ 19 ∷ 20 ∷ [])) e in
-    let n2 = neither (eqb n 2) (member n (3 ∷ 10 ∷ 11 ∷ 19 ∷ 20 ∷ [])) (n1 .1) in
-    (n2 .0, neither (eqb n 3) (member n (10 ∷ 11 ∷ 19 ∷ 20 ∷ [])) (n2 .1) .0)
-
 pub word-whole : (big : Bool) (labels : Memory) (op : Operation) (offset : ℕ) → member (op .opcode) moving ≡ false → destinationBytes op offset .size ≤ 8
     → (s0 s1 : Bool) → s0 ≡ hasSecret labels (op .input0) → s1 ≡ hasSecret labels (op .input1)
     → (r : ℕ) → ((k : ℕ) → k < 8 → digit 256 r k ≡ flag (s0 || s1)) → LabelWord big labels op offset r
@@ -213,7 +198,7 @@ unfolding labelWritten becomesSecret significance
 word-whole big labels op offset e most s0 s1 e0 e1 r h =
     let n = no-move (op .opcode) e in
     told-are big labels op offset (destinationBytes op offset .size) (bytesOf false (destinationBytes op offset .size) r) (bytes-length false _ r)
-    (λ i l. bytes-at false (destinationBytes op offset .size) r i l ∙ h i (omega arith) ∙ rw (e0, e1, e, n .0, n .1, or-false) refl)
+    (λ i l. bytes-at false (destinationBytes op offset .size) r i l ∙ h i (omega arith) ∙ rw (e0, e1, e, n .1, n .2, or-false) refl)
 
 -- ---- what the code relies on
 
@@ -242,8 +227,7 @@ module _ (labels : Memory) (list : List ℕ) (i offset : ℕ) (pre : Readable la
   sizes-joined e = (input0-some (rw e refl), eqb-true _ _ (rw e at sizes))
 
   sizes-extended : opcodeAt list i ≡ 20 → (1 ≤ varnodeAt list i 1 .size) × (varnodeAt list i 1 .size < varnodeAt list i 0 .size)
-  unfolding sizesAgree agree sizesOf hasPlace outputs inputs rowOf opcodes
-  sizes-extended e = (input0-some (rw e refl), ltb-true _ _ (rw e at sizes))
+  sizes-extended e = (input0-some (extends _ e), larger _ _ _ _ _ e (pre .valid .operations i (pre .index) .sized))
 
   pub movable-words : (big : Bool) → OfBytes labels → (a b : ℕ) → a ≡ valueOf big (bytesAt labels (varnodeAt list i 1)) → b ≡ valueOf big (bytesAt labels (varnodeAt list i 2))
       → MovableWords (opcodeAt list i) (varnodeAt list i 0 .size) (varnodeAt list i 1 .size) (varnodeAt list i 2 .size) a b
@@ -282,4 +266,4 @@ module _ (labels : Memory) (list : List ℕ) (i offset : ℕ) (pre : Readable la
 
   pub whole-most : member (opcodeAt list i) moving ≡ false → destinationBytes (operationAt list i) offset .size ≤ 8
   unfolding destinationBytes operationAt
-  whole-most e = rw (no-move (opcodeAt list i) e .1) (place-input 0 (omega arith) .size)
+  whole-most e = rw (no-move (opcodeAt list i) e .2) (place-input 0 (omega arith) .size)

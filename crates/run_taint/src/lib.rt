@@ -5,10 +5,11 @@ ghost use Prim.Native.Nat.{ℕ, _+_, _*_, _-_, _^_, _≤_, _<_};
 ghost use lib.Dec.{ltb};
 ghost use lib.ListN.{length};
 ghost use Rattle.word.specs.Sum.{digit};
+ghost use Rattle.word.specs.Word.{valueOf};
 ghost use Rattle.arithmetic.specs.Opcodes.{member};
 ghost use Rattle.arithmetic.specs.Operands.{divides};
 ghost use Rattle.operation.specs.Layout.{wordsPerOperation, operationCount, absent, opcodeAt};
-ghost use Rattle.machine.specs.Memory.{Memory, spaces, lengthsOf};
+ghost use Rattle.machine.specs.Memory.{Memory, spaces, lengthsOf, bytesAt};
 ghost use Rattle.machine.specs.Effect.{operationAt, pointee};
 ghost use Rattle.machine.specs.Conditions.{hasSecret, leaks, destinationBytes, moving};
 ghost use Rattle.run_memory.specs.Placed.{Placed};
@@ -168,10 +169,47 @@ fn moved_labels<'a>(
     let output = varnode_at(list, i, 0);
     let input0 = varnode_at(list, i, 1);
     let input1 = varnode_at(list, i, 2);
-    let a = labels_at(big, unique, register, ram, input0);
-    let b = labels_at(big, unique, register, ram, input1);
+    let a = read_labels0(big, unique, register, ram, input0);
+    let b = read_labels1(big, unique, register, ram, input1);
     let word = moved_word(opcode, output.size, input0.size, input1, a, b);
     in_memory(big, output.size as usize, word)
+}
+
+// As labels_at, with a constant for the order of each call. A reader for each of the two reads, since with two callers it would be called and
+// not inlined, as the plan's readers (docs/DECISIONS.md).
+fn read_labels0<'a>(
+    big: bool,
+    unique: &'a [u8],
+    register: &'a [u8],
+    ram: &'a [u8],
+    v: Varnode,
+) -> u64
+    requires { ⌜ Placed (spaces (now unique) (now register) (now ram)) v ⌝ }
+    ensures { λ r. ⌜ r ≡ valueOf big (bytesAt (spaces (now (unique .entry)) (now (register .entry)) (now (ram .entry))) v) ⌝ }
+{
+    if big {
+        labels_at(true, unique, register, ram, v)
+    } else {
+        labels_at(false, unique, register, ram, v)
+    }
+}
+
+// As read_labels0.
+fn read_labels1<'a>(
+    big: bool,
+    unique: &'a [u8],
+    register: &'a [u8],
+    ram: &'a [u8],
+    v: Varnode,
+) -> u64
+    requires { ⌜ Placed (spaces (now unique) (now register) (now ram)) v ⌝ }
+    ensures { λ r. ⌜ r ≡ valueOf big (bytesAt (spaces (now (unique .entry)) (now (register .entry)) (now (ram .entry))) v) ⌝ }
+{
+    if big {
+        labels_at(true, unique, register, ram, v)
+    } else {
+        labels_at(false, unique, register, ram, v)
+    }
 }
 
 // What COPY, LOAD and STORE read: input0, the bytes loaded, or input2.

@@ -19,6 +19,10 @@ size-pos s = one-le-pow s 256 (lit< tt)
 pub size-mono : (s t : ℕ) → s ≤ t → 256 ^ s ≤ 256 ^ t
 size-mono s t h = pow-le-pow-right {n = 256} (lit< tt) h
 
+-- by the power of one byte less
+pub size-less : (s : ℕ) → 1 ≤ s → 256 ^ s ≡ 256 ^ (s - 1) * 256
+size-less s some = let e : s ≡ suc (s - 1) = omega arith in ap (λ (n : ℕ). 256 ^ n) e ∙ pow-suc 256 (s - 1)
+
 pub size-most : (s : ℕ) → s ≤ 8 → 256 ^ s ≤ 2 ^ 64
 size-most s h = size-mono s 8 h
 

@@ -2,14 +2,16 @@
 use Prim.Native.Nat.{ℕ, suc, _+_, _-_, _*_, _/_, _%_, _^_, _≤_, _<_}
 use native.Mathlib.Nat.{div-eq-of-lt, lt-of-lt-of-le, mod-eq-of-lt, div-lt-iff-lt-mul, pow-suc, div-one}
 use native.Mathlib.Omega.{arith}
-use mathlib.Core.Path.{_≡_, sym, ap, _∙_}
-use mathlib.Core.Bool.{Bool, false}
+use mathlib.Core.Path.{_≡_, refl, sym, ap, _∙_}
+use mathlib.Core.Bool.{Bool, true, false, cond}
 use mathlib.Core.List.{List}
+use borrow.Author.Tests.{ltb-true, ltb-false}
+use lib.Dec.{ltb}
 use lib.ListN.{getD}
 use lib.Pow.{shr-shr, high, low, ones-split}
 use Rattle.word.specs.Sum.{digit}
 use Rattle.word.specs.Word.{significance, valueOf, bytesOf}
-use Rattle.word.proofs.Powers.{pow-bits, size-pos, size-mono}
+use Rattle.word.proofs.Powers.{pow-bits, size-pos, size-mono, size-less}
 use Rattle.word.proofs.Laws.{bytes-length, bytes-at, bytes-bytes, read-written, written-read}
 
 -- n bytes tell a number but for a multiple of 256^n
@@ -44,19 +46,22 @@ module _ (t a b : ℕ) (hb : b < 256 ^ t) where
   high-part : (a * 256 ^ t + b) / 256 ^ t ≡ a
   high-part = let l : b < 2 ^ (8 * t) = rw (pow-bits t) at hb in rw (pow-bits t) (high a (8 * t) l)
 
-  pub digit-low : (i : ℕ) → i < t → digit 256 (a * 256 ^ t + b) i ≡ digit 256 b i
-  digit-low i h = sym (digit-mod (a * 256 ^ t + b) t i h) ∙ ap (λ (x : ℕ). digit 256 x i) low-part
-
-  pub digit-high : (j : ℕ) → digit 256 (a * 256 ^ t + b) (t + j) ≡ digit 256 a j
+  digit-high : (j : ℕ) → digit 256 (a * 256 ^ t + b) (t + j) ≡ digit 256 a j
   digit-high j = sym (digit-div (a * 256 ^ t + b) t j) ∙ ap (λ (x : ℕ). digit 256 x j) high-part
+
+  pub digit-joined : (k : ℕ) → digit 256 (a * 256 ^ t + b) k ≡ cond (ltb k t) (digit 256 b k) (digit 256 a (k - t))
+  digit-joined k = by (ltb k t) refl
+    where
+      by : (c : Bool) → ltb k t ≡ c → digit 256 (a * 256 ^ t + b) k ≡ cond c (digit 256 b k) (digit 256 a (k - t))
+      by true e = sym (digit-mod (a * 256 ^ t + b) t k (ltb-true k t e)) ∙ ap (λ (x : ℕ). digit 256 x k) low-part
+      by false e =
+          let l : k ≡ t + (k - t) = omega (arith, ltb-false k t e) in
+          ap (digit 256 (a * 256 ^ t + b)) l ∙ digit-high (k - t)
 
 -- the top byte of s
 pub digit-top : (s x : ℕ) → 1 ≤ s → x < 256 ^ s → digit 256 x (s - 1) ≡ x / 256 ^ (s - 1)
 unfolding digit
-digit-top s x some h =
-    let e : s ≡ suc (s - 1) = omega arith in
-    let w : 256 ^ s ≡ 256 ^ (s - 1) * 256 = ap (λ (n : ℕ). 256 ^ n) e ∙ pow-suc 256 (s - 1) in
-    mod-eq-of-lt (div-lt-iff-lt-mul (size-pos (s - 1)) .1 (omega arith))
+digit-top s x some h = mod-eq-of-lt (div-lt-iff-lt-mul (size-pos (s - 1)) .1 (omega (arith, h, size-less s some)))
 
 -- all bits of t bytes
 pub digit-ones : (t j : ℕ) → j < t → digit 256 (256 ^ t - 1) j ≡ 255

@@ -7,7 +7,7 @@ use native.Mathlib.Nat.{zero-mul, add-mul}
 use native.Mathlib.Omega.{arith}
 use borrow.Author.Tests.{ltb-true, ltb-false}
 use lib.Dec.{ltb}
-use lib.ListN.{length, getD, length-reverse, List·getD-eq-default, List·getD-append}
+use lib.ListN.{length, getD, replicate, length-reverse, List·getD-eq-default, List·getD-append}
 use lib.Seq.{ext-getD, getD-append-seam}
 use Rattle.word.specs.Sum.{sum, tabulate}
 
@@ -55,6 +55,11 @@ tabulate-at (suc n) f (suc i) h = tabulate-at n (λ k. f (suc k)) i (omega arith
 
 pub tabulate-past : (n : ℕ) (f : ℕ → ℕ) (i : ℕ) → n ≤ i → getD (tabulate n f) i 0 ≡ 0
 tabulate-past n f i h = List·getD-eq-default (tabulate n f) 0 (rw tabulate-length h)
+
+pub tabulate-same : (n c : ℕ) → tabulate n (λ i. c) ≡ replicate n c
+unfolding tabulate
+tabulate-same zero c = refl
+tabulate-same (suc n) c = ap (λ (l : List ℕ). c ∷ l) (tabulate-same n c)
 
 -- a list is what its entries are
 pub tabulate-is : (n : ℕ) (f : ℕ → ℕ) (l : List ℕ) → length l ≡ n → ((i : ℕ) → i < n → f i ≡ getD l i 0) → tabulate n f ≡ l

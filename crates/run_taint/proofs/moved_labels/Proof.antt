@@ -63,15 +63,15 @@ varnode-at-requires-3 c κs =
     let pre = entry .before .pre .0 in
     (in-words _ _ (pre .valid) _ (pre .index), omega arith)
 
-labels-at-requires-2 : tie.Need-labels-at-requires-2
-labels-at-requires-2 c κs =
+read-labels0-requires : tie.Need-read-labels0-requires
+read-labels0-requires c κs =
     let first = c .before in
     let decoded = first .before .before .before in
     let entry = decoded .before .before .before .before in
     rw (first .varnode-at2 .ensures) (place-input _ _ _ _ (entry .before .pre .0) 1 (omega arith))
 
-labels-at-requires-3 : tie.Need-labels-at-requires-3
-labels-at-requires-3 c κs =
+read-labels1-requires : tie.Need-read-labels1-requires
+read-labels1-requires c κs =
     let second = c .before in
     let decoded = second .before .before .before .before in
     let entry = decoded .before .before .before .before in
@@ -90,7 +90,7 @@ moved-word-requires c κs =
     let pre = unique .before .before .pre in
     let bytes = of-bytes _ _ _ (λ k. unique .shared-slice-known2 .given k .fits) (λ k. register .shared-slice-known3 .given k .fits) (λ k. ram .shared-slice-known4 .given k .fits) in
     rw (decoded .opcode-at .ensures, output .varnode-at .ensures, first .varnode-at2 .ensures, second .varnode-at3 .ensures)
-    (movable-words _ _ _ _ (pre .0) _ bytes _ _ (rw (first .varnode-at2 .ensures) at (read0 .labels-at2 .ensures)) (rw (second .varnode-at3 .ensures) at (c .labels-at3 .ensures)))
+    (movable-words _ _ _ _ (pre .0) _ bytes _ _ (rw (first .varnode-at2 .ensures) at (read0 .read-labels0 .ensures)) (rw (second .varnode-at3 .ensures) at (c .read-labels1 .ensures)))
 
 in-memory-requires : tie.Need-in-memory-requires
 in-memory-requires c κs =
@@ -116,7 +116,7 @@ returns-2 c =
     let pre = unique .before .before .pre in
     let bytes = of-bytes _ _ _ (λ k. unique .shared-slice-known2 .given k .fits) (λ k. register .shared-slice-known3 .given k .fits) (λ k. ram .shared-slice-known4 .given k .fits) in
     word-moved _ _ bytes _ _ (pre .1) (rw (decoded .opcode-at .ensures) at (late .if1 .left)) _ _
-    (rw (first .varnode-at2 .ensures) at (read0 .labels-at2 .ensures)) (rw (second .varnode-at3 .ensures) at (read1 .labels-at3 .ensures)) _
+    (rw (first .varnode-at2 .ensures) at (read0 .read-labels0 .ensures)) (rw (second .varnode-at3 .ensures) at (read1 .read-labels1 .ensures)) _
     (rw (decoded .opcode-at .ensures, output .varnode-at .ensures, first .varnode-at2 .ensures, second .varnode-at3 .ensures) at (moved .moved-word .ensures))
     _ (rw (output .varnode-at .ensures) at (c .in-memory .ensures))
 
@@ -131,8 +131,8 @@ moved-labels-spec =
     varnode-at-requires
     varnode-at-requires-2
     varnode-at-requires-3
-    labels-at-requires-2
-    labels-at-requires-3
+    read-labels0-requires
+    read-labels1-requires
     moved-word-requires
     in-memory-requires
     returns-2)
