@@ -50,9 +50,9 @@ pub fn mark(unique: &mut [u8], register: &mut [u8], ram: &mut [u8], v: Varnode, 
     let at = v.offset as usize;
     let size = v.size as usize;
     match space {
-        2 => scatter(false, unique, at, size, labels),
-        3 => scatter(false, register, at, size, labels),
         4 => scatter(false, ram, at, size, labels),
+        3 => scatter(false, register, at, size, labels),
+        2 => scatter(false, unique, at, size, labels),
         _ => {}
     }
 }

@@ -50,6 +50,13 @@ division-late n d =
     let l = leb-true 35 n (both (leb 35 n) (leb n 38) d .0) in
     omega arith
 
+pub early-no-division : (n : ℕ) → n < firstInteger → divides n ≡ false
+early-no-division n l = by (divides n) refl
+  where
+    by : (t : Bool) → divides n ≡ t → t ≡ false
+    by true d = absurd (let h = division-late n d in let z : ⊥ = omega arith in z)
+    by false d = refl
+
 pub division-no-branch : (n : ℕ) → divides n ≡ true → branches n ≡ false
 division-no-branch n d = late-no-branch n (division-late n d)
 
@@ -81,7 +88,7 @@ abbrev watched : (opcode : ℕ) (input0 input1 : Varnode) → Varnode
 watched n v0 v1 = cond (jumps n) v0 (cond (accesses n || eqb n 5) v1 absent)
 
 module _ (n : ℕ) (v0 v1 : Varnode) where
-  pub watched-late : firstInteger ≤ n → watched n v0 v1 ≡ absent
+  watched-late : firstInteger ≤ n → watched n v0 v1 ≡ absent
   watched-late l = rw (late-no-jump n l, late-no-access n l, ne-eqb n 5 (λ e. omega arith)) refl
 
   pub watched-tested : accesses n || eqb n 5 ≡ true → watched n v0 v1 ≡ v1
@@ -117,6 +124,12 @@ leaks-watched labels op d = leaks-by labels op ∙ rw d (or-false _ ∙ or-false
         ≡ hasSecret labels (watched n (op .input0) (op .input1))
     by true e = rw (jump-no-access n e, jump-no-condition n e, e) refl
     by false e = rw (e, tested (accesses n || eqb n 5)) (or-false _ ∙ by-one (accesses n) (eqb n 5) (hasSecret labels (op .input1)))
+
+-- an integer operation that is no division: nothing
+pub late-public : (labels : Memory) (list : List ℕ) (i : ℕ) → firstInteger ≤ opcodeAt list i → divides (opcodeAt list i) ≡ false → leaks labels (operationAt list i) ≡ false
+unfolding operationAt
+late-public labels list i l d =
+    leaks-watched labels (operationAt list i) d ∙ rw (watched-late (opcodeAt list i) (varnodeAt list i 1) (varnodeAt list i 2) l) (absent-public labels absent refl)
 
 -- ---- what is written to
 

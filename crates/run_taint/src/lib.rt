@@ -6,8 +6,7 @@ ghost use lib.Dec.{ltb};
 ghost use lib.ListN.{length};
 ghost use Rattle.word.specs.Sum.{digit};
 ghost use Rattle.word.specs.Word.{valueOf};
-ghost use Rattle.arithmetic.specs.Opcodes.{member};
-ghost use Rattle.arithmetic.specs.Operands.{divides};
+ghost use Rattle.arithmetic.specs.Opcodes.{firstInteger, member};
 ghost use Rattle.operation.specs.Layout.{wordsPerOperation, operationCount, absent, opcodeAt};
 ghost use Rattle.machine.specs.Memory.{Memory, spaces, lengthsOf, bytesAt};
 ghost use Rattle.machine.specs.Effect.{operationAt, pointee};
@@ -33,7 +32,8 @@ use run_memory::labels::in_memory;
 use run_memory::labels::labels_at;
 use word::size::low;
 
-// LEAK: a byte that must be public is secret. Of a division both operands must be public, of any other operation at most one varnode.
+// LEAK: a byte that must be public is secret. Of a division both operands must be public, of any other integer operation none, and below them
+// at most one varnode.
 pub fn leaks_at<'a>(
     list: &[u64],
     unique: &'a [u8],
@@ -44,25 +44,26 @@ pub fn leaks_at<'a>(
     requires { ⌜ Valid (lengthsOf (spaces (now unique) (now register) (now ram))) (now list) × (i < operationCount (now list)) ⌝ }
     ensures { λ r. ⌜ r ≡ leaks (spaces (now (unique .entry)) (now (register .entry)) (now (ram .entry))) (operationAt (now (list .entry)) i) ⌝ }
 {
-    if is_division(opcode_at(list, i)) {
+    let opcode = opcode_at(list, i);
+    if opcode < FIRST_INTEGER {
+        return has_secret(unique, register, ram, sink_at(list, i));
+    }
+    if is_division(opcode) {
         let secret_dividend = has_secret(unique, register, ram, varnode_at(list, i, 1));
         let secret_divisor = has_secret(unique, register, ram, varnode_at(list, i, 2));
         return either(secret_dividend, secret_divisor);
     }
-    has_secret(unique, register, ram, sink_at(list, i))
+    false
 }
 
-// The varnode that must be public, of an operation that is no division: input0 of an exit, input1 of LOAD, STORE and CBRANCH; else an
-// absent one. The first test tells most operations.
+// The varnode that must be public, of an operation below the integer ones: input0 of an exit, input1 of LOAD, STORE and CBRANCH; else an
+// absent one.
 fn sink_at(list: &[u64], i: usize) -> Varnode
-    requires { ⌜ (wordsPerOperation * i + wordsPerOperation ≤ length (now list)) × (divides (opcodeAt (now list) i) ≡ false) ⌝ }
+    requires { ⌜ (wordsPerOperation * i + wordsPerOperation ≤ length (now list)) × (opcodeAt (now list) i < firstInteger) ⌝ }
     ensures leak { λ r. ⌜ ((labels : Memory) → hasSecret labels r ≡ leaks labels (operationAt (now (list .entry)) i)) ⌝ }
     ensures place { λ r. ⌜ ((labels : Memory) → Valid (lengthsOf labels) (now (list .entry)) → i < operationCount (now (list .entry)) → Placed labels r) ⌝ }
 {
     let opcode = opcode_at(list, i);
-    if FIRST_INTEGER <= opcode {
-        return absent();
-    }
     if either(accesses(opcode), opcode == 5) {
         return varnode_at(list, i, 2);
     }

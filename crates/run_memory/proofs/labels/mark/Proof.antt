@@ -12,7 +12,7 @@ unfolding spaceOf
 scatter-requires c κs =
     let entry = c .before .before .before .before in
     let p = entry .before .pre in
-    (p .size, placed-in _ _ 2 (c .before .match .keys1) (lit≤ tt) p)
+    (p .size, placed-in _ _ 4 (c .before .match .keys1) (lit≤ tt) p)
 
 scatter-requires-2 : tie.Need-scatter-requires-2
 unfolding spaceOf
@@ -26,13 +26,13 @@ unfolding spaceOf
 scatter-requires-3 c κs =
     let entry = c .before .before .before .before in
     let p = entry .before .pre in
-    (p .size, placed-in _ _ 4 (c .before .match .keys3) (lit≤ tt) p)
+    (p .size, placed-in _ _ 2 (c .before .match .keys3) (lit≤ tt) p)
 
 returns : tie.Need-returns
 unfolding spaceOf withSpace
 returns c =
     let chosen = c .before .before .before .before in
-    written-in _ _ 2 (chosen .match .keys1) _ _
+    written-in _ _ 4 (chosen .match .keys1) _ _
     (c .before .before .scatter .ensures)
 
 returns-2 : tie.Need-returns-2
@@ -46,13 +46,13 @@ returns-3 : tie.Need-returns-3
 unfolding spaceOf withSpace
 returns-3 c =
     let chosen = c .before .before .before .before in
-    written-in _ _ 4 (chosen .match .keys3) _ _
+    written-in _ _ 2 (chosen .match .keys3) _ _
     (c .before .before .scatter3 .ensures)
 
 returns-4 : tie.Need-returns-4
 returns-4 c =
     let r = c .match .rest in
-    sym (written-elsewhere _ _ (r .0 .0 .1) (r .0 .1) (r .1) _)
+    sym (written-elsewhere _ _ (r .1) (r .0 .1) (r .0 .0 .1) _)
 
 pub mark-spec : {M : Type 1} → statement M
 mark-spec =
