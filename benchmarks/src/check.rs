@@ -2,7 +2,7 @@
 //! the speculative run without a window, and with one but for the words of its windows.
 
 use crate::library::{Labels, Program, State, LARGEST_WINDOW};
-use crate::loops::{branching_loops, loops, straight};
+use crate::loops::{branching_loops, loops, packing_loops, straight};
 use crate::{run, Kind};
 
 const OPERATIONS: u32 = 1_000;
@@ -24,7 +24,8 @@ fn check(program: &Program, budget: u32, state: &State) -> [u64; 5] {
 
 #[test]
 fn loops_agree() {
-    for timed in loops(OPERATIONS).into_iter().chain(branching_loops(OPERATIONS)) {
+    let groups = [loops(OPERATIONS), packing_loops(OPERATIONS), branching_loops(OPERATIONS)];
+    for timed in groups.into_iter().flatten() {
         let [ending, _, executed, log_words, value] =
             check(&timed.program, OPERATIONS, &timed.state);
         assert_eq!([ending, executed, value], [2, u64::from(OPERATIONS), 0], "{}", timed.name);

@@ -6,7 +6,7 @@ use std::hint::black_box;
 use std::process::Command;
 
 use crate::library::{Labels, Program, State};
-use crate::loops::{branching_loops, loops, straight, Loop};
+use crate::loops::{branching_loops, loops, packing_loops, straight, Loop};
 use crate::{run, Kind};
 
 /// Two budgets: the difference of their counts has no part of the call's own cost.
@@ -20,14 +20,16 @@ const LOG_WORDS_PER_OPERATION: u32 = 20;
 pub fn print() -> Result<(), String> {
     println!("instructions an operation (callgrind)");
     println!("loop      size  order    plain   Rust  labelled");
-    for (number, timed) in loops(0).iter().enumerate() {
-        print!("{:<8}  {:>4}  {:<6}", timed.name, timed.size, timed.order_name());
-        for (kind, width) in [("plain", 7), ("rust", 7), ("labelled", 10)] {
-            let count =
-                |budget: u32| counted(&["loop", kind, &number.to_string(), &budget.to_string()]);
-            print!("{:width$.1}", slope(BUDGETS, count)?);
+    for (group, loops) in [("loop", loops(0)), ("packing", packing_loops(0))] {
+        for (number, timed) in loops.iter().enumerate() {
+            print!("{:<8}  {:>4}  {:<6}", timed.name, timed.size, timed.order_name());
+            for (kind, width) in [("plain", 7), ("rust", 7), ("labelled", 10)] {
+                let count =
+                    |budget: u32| counted(&[group, kind, &number.to_string(), &budget.to_string()]);
+                print!("{:width$.1}", slope(BUDGETS, count)?);
+            }
+            println!();
         }
-        println!();
     }
     println!("loop       size  order    labelled  W = 0   W = 64");
     for (number, timed) in branching_loops(0).iter().enumerate() {
@@ -96,6 +98,10 @@ pub fn once(words: &[&str]) -> Result<(), String> {
         ["loop", kind, place, budget] => {
             let budget = number(budget)?;
             run_loop(kind, loops(budget), place, budget)?;
+        }
+        ["packing", kind, place, budget] => {
+            let budget = number(budget)?;
+            run_loop(kind, packing_loops(budget), place, budget)?;
         }
         ["branching", kind, place, budget] => {
             let budget = number(budget)?;

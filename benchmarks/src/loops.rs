@@ -44,6 +44,12 @@ pub fn branching_loops(log_words: u32) -> Vec<Loop> {
     SIZES_AND_ORDERS.map(|(size, order)| branching_loop(log_words, size, order)).into()
 }
 
+/// The packing loop, for each size that has two halves, with room in the log for this many operations.
+pub fn packing_loops(operations: u32) -> Vec<Loop> {
+    let sizes_and_orders = SIZES_AND_ORDERS.into_iter().filter(|(size, _)| size % 2 == 0);
+    sizes_and_orders.map(|(size, order)| packing_loop(operations, size, order)).collect()
+}
+
 /// A distance of a branch.
 fn back(operations: i64) -> u64 {
     -operations as u64
@@ -61,6 +67,8 @@ const ABSENT: (u64, u64) = (0, 0);
 const CONDITION: (u64, u64) = (2, 1);
 /// A constant that names a space.
 const SPACE: (u64, u64) = (1, 1);
+/// A constant number of bytes.
+const COUNT: (u64, u64) = (1, 1);
 /// A constant distance.
 const DISTANCE: (u64, u64) = (1, 8);
 const RAM: u64 = 4;
@@ -117,6 +125,32 @@ fn copying_loop(operations: u32, size: u64, order: u64) -> Loop {
     ];
     let program = Program { order, address_size: size, list: list.concat() };
     Loop { name: "copying", size, program, state: state(operations, 2 * half as usize) }
+}
+
+/// Takes a word apart, extends its halves and exchanges them: six operations a round, of which five move
+/// bytes, and labels with them, by significance.
+fn packing_loop(operations: u32, size: u64, order: u64) -> Loop {
+    let half = size / 2;
+    let word = (3, size);
+    let part = (2, half);
+    let list = [
+        // SUBPIECE: the low half of the word.
+        [head(11, &[part, word, COUNT]), 0, 0, 0, 0],
+        // SUBPIECE: its high half.
+        [head(11, &[part, word, COUNT]), 8, 0, half, 0],
+        // INT_ZEXT: the low half as a word.
+        [head(19, &[word, part]), 8, 0, 0, 0],
+        // INT_SEXT: the high half as a word.
+        [head(20, &[word, part]), 16, 8, 0, 0],
+        // PIECE: the word with its halves exchanged.
+        [head(10, &[word, part, part]), 0, 0, 8, 0],
+        // CBRANCH: the next round.
+        [head(5, &[ABSENT, DISTANCE, ALWAYS]), 0, back(5), 1, 0],
+    ];
+    let program = Program { order, address_size: size, list: list.concat() };
+    let mut state = state(operations, 0);
+    state.register = (1..=64).map(|number| 3 * number).collect();
+    Loop { name: "packing", size, program, state }
 }
 
 /// Counts, and adds every other count to a sum: a round has four or five operations, of which two are

@@ -4,7 +4,7 @@ use std::hint::black_box;
 use std::time::{Duration, Instant};
 
 use crate::library::{Labels, LARGEST_WINDOW};
-use crate::loops::{branching_loops, loops, Loop};
+use crate::loops::{branching_loops, loops, packing_loops, Loop};
 use crate::{run, Kind};
 
 const OPERATIONS: u32 = 1_000_000;
@@ -21,7 +21,7 @@ pub fn print() {
 
 /// Prints first what was asked for, at most twice the time of Rust on both loops, then all figures.
 fn print_loops() {
-    let rows: Vec<(Loop, Times)> = loops(OPERATIONS).into_iter().map(time_all).collect();
+    let rows = time_each(loops(OPERATIONS));
     for (timed, times) in &rows[..2] {
         println!(
             "plain / Rust, {} loop: {:.2} (to be at most 2.0)",
@@ -29,10 +29,19 @@ fn print_loops() {
             times.plain_by_rust()
         );
     }
+    print_rows(&rows);
+    let [mean, most] = mean_and_most(rows.iter().map(|(_, times)| times.plain_by_rust()));
+    println!("plain / Rust: mean {mean:.2}, at most {most:.2}");
+    let [mean, most] = mean_and_most(rows.iter().map(|(_, times)| times.labelled_by_plain()));
+    println!("labelled / plain: mean {mean:.2}, at most {most:.2}");
+    print_rows(&time_each(packing_loops(OPERATIONS)));
+}
+
+fn print_rows(rows: &[(Loop, Times)]) {
     println!(
         "loop      size  order   plain ns  Rust ns  labelled ns  plain / Rust  labelled / plain"
     );
-    for (timed, times) in &rows {
+    for (timed, times) in rows {
         println!(
             "{:<8}  {:>4}  {:<6}  {:8.2}  {:7.2}  {:11.2}  {:12.2}  {:16.2}",
             timed.name,
@@ -45,10 +54,6 @@ fn print_loops() {
             times.labelled_by_plain(),
         );
     }
-    let [mean, most] = mean_and_most(rows.iter().map(|(_, times)| times.plain_by_rust()));
-    println!("plain / Rust: mean {mean:.2}, at most {most:.2}");
-    let [mean, most] = mean_and_most(rows.iter().map(|(_, times)| times.labelled_by_plain()));
-    println!("labelled / plain: mean {mean:.2}, at most {most:.2}");
 }
 
 /// The least times of a loop.
@@ -66,6 +71,10 @@ impl Times {
     fn labelled_by_plain(&self) -> f64 {
         self.labelled.as_secs_f64() / self.plain.as_secs_f64()
     }
+}
+
+fn time_each(loops: Vec<Loop>) -> Vec<(Loop, Times)> {
+    loops.into_iter().map(time_all).collect()
 }
 
 /// Times the three runs in turn, so that a slow moment of the machine meets all of them.

@@ -1,5 +1,5 @@
 -- The labels of a varnode as one number: it is 0 where each label is; one label in eight bytes; bytes turned round.
-use Prim.Native.Nat.{ℕ, zero, suc, _+_, _*_, _^_, _≤_, _<_}
+use Prim.Native.Nat.{ℕ, zero, suc, _+_, _-_, _*_, _/_, _^_, _≤_, _<_}
 use mathlib.Core.Path.{_≡_, refl, sym, ap, _∙_}
 use mathlib.Core.Bool.{Bool, true, false, not}
 use mathlib.Core.List.{List, []}
@@ -8,12 +8,14 @@ use native.Mathlib.Omega.{arith}
 use borrow.Author.Tests.{eqb-true, eqb-false, eq-eqb, ne-eqb, not-false}
 use lib.Dec.{eqb, lit<}
 use lib.ListN.{length, getD}
+use lib.Pow.{shr-lt}
 use lib.Seq.{sets}
 use Rattle.word.specs.Sum.{sum, tabulate, digit}
 use Rattle.word.specs.Word.{part, significance, valueOf, bytesOf}
 use Rattle.word.proofs.Digits.{digit-of}
-use Rattle.word.proofs.Powers.{size-pos}
-use Rattle.word.proofs.Laws.{stored-part, stored-length, bytes-length, bytes-bytes, written-read, gathered, gathered-all}
+use Rattle.word.proofs.Powers.{pow-bits, size-pos}
+use Rattle.word.proofs.Shifts.{digit-div}
+use Rattle.word.proofs.Laws.{stored-part, stored-length, value-lt, bytes-length, bytes-at, bytes-bytes, written-read, gathered, gathered-all}
 use Rattle.integer.proofs.Booleans.{neither}
 use Rattle.operation.specs.declared.layout.Varnode.{Varnode}
 use Rattle.machine.specs.Memory.{Memory, spaceOf, bytesAt}
@@ -76,11 +78,11 @@ no-space : (labels : Memory) (space : ℕ) → space < 2 → spaceOf labels spac
 unfolding spaceOf
 no-space labels space h = rw (ne-eqb space 2 (λ e. omega arith), ne-eqb space 3 (λ e. omega arith), ne-eqb space 4 (λ e. omega arith)) refl
 
-pub constant-labels : (big : Bool) (labels : Memory) (v : Varnode) → v .space < 2 → valueOf big (bytesAt labels v) ≡ 0
-unfolding bytesAt gathered
-constant-labels big labels v h =
-    rw (no-space labels (v .space) h, ← (gathered-all big [] (v .offset) (v .size)))
-    (sum-zero (v .size) (λ i. getD [] (v .offset + i) 0 * 256 ^ significance big (v .size) i) (λ i l. zero-mul (256 ^ significance big (v .size) i)))
+pub constant-labels : (labels : Memory) (v : Varnode) → v .space < 2 → valueOf false (bytesAt labels v) ≡ 0
+unfolding bytesAt gathered significance
+constant-labels labels v h =
+    rw (no-space labels (v .space) h, ← (gathered-all false [] (v .offset) (v .size)))
+    (sum-zero (v .size) (λ i. getD [] (v .offset + i) 0 * 256 ^ i) (λ i l. zero-mul (256 ^ i)))
 
 -- ---- the same label in eight bytes
 
@@ -90,16 +92,40 @@ same-labels label h k l =
     let e : label * 0x0101010101010101 ≡ sum 8 (λ i. label * 256 ^ i) = omega arith in
     ap (λ (n : ℕ). digit 256 n k) e ∙ digit-of 256 (lit< tt) 8 (λ i. label) (λ i m. h) k l
 
--- ---- bytes written in one order and read in the other
+-- ---- bytes turned round
 
-module _ (l : List ℕ) (eight : length l ≡ 8) (big : Bool) (size n : ℕ) (most : size ≤ 8) (after : List ℕ) (e : after ≡ sets l 0 (bytesOf big size n)) where
+-- eight bytes written in big order and read in little order
+module _ (l : List ℕ) (eight : length l ≡ 8) (n : ℕ) (after : List ℕ) (e : after ≡ sets l 0 (bytesOf true 8 n)) where
   pub still-eight : length after ≡ 8
-  still-eight = ap length e ∙ stored-length l 0 (bytesOf big size n) ∙ eight
+  still-eight = ap length e ∙ stored-length l 0 (bytesOf true 8 n) ∙ eight
 
-  pub read-back : (r : ℕ) → r ≡ valueOf false (part after 0 size) → bytesOf false size r ≡ bytesOf big size n
-  read-back r er =
-      let c : length (bytesOf big size n) ≡ size = bytes-length big size n in
-      let p : part after 0 size ≡ bytesOf big size n =
-      ap (λ (bs : List ℕ). part bs 0 size) e ∙ ap (part (sets l 0 (bytesOf big size n)) 0) (sym c) ∙ stored-part l 0 (bytesOf big size n) (omega arith) in
-      ap (bytesOf false size) (er ∙ ap (valueOf false) p) ∙ ap (λ (k : ℕ). bytesOf false k (valueOf false (bytesOf big size n))) (sym c)
-      ∙ written-read false (bytesOf big size n) (bytes-bytes big size n)
+  module _ (t : ℕ) (et : t ≡ valueOf false (part after 0 8)) where
+    turned : t ≡ valueOf false (bytesOf true 8 n)
+    turned =
+        let c : length (bytesOf true 8 n) ≡ 8 = bytes-length true 8 n in
+        et ∙ ap (valueOf false)
+        (ap (λ (bs : List ℕ). part bs 0 8) e ∙ ap (part (sets l 0 (bytesOf true 8 n)) 0) (sym c) ∙ stored-part l 0 (bytesOf true 8 n) (omega arith))
+
+    turned-at : (j : ℕ) → j < 8 → digit 256 t j ≡ digit 256 n (7 - j)
+    unfolding significance
+    turned-at j h =
+        let c : length (bytesOf true 8 n) ≡ 8 = bytes-length true 8 n in
+        let w : bytesOf false 8 t ≡ bytesOf true 8 n =
+        ap (bytesOf false 8) turned ∙ ap (λ (k : ℕ). bytesOf false k (valueOf false (bytesOf true 8 n))) (sym c) ∙ written-read false (bytesOf true 8 n) (bytes-bytes true 8 n) in
+        sym (bytes-at false 8 t j h) ∙ ap (λ (bs : List ℕ). getD bs j 0) w ∙ bytes-at true 8 n j h
+
+    -- without those past `size`
+    module _ (size : ℕ) (most : size ≤ 8) (r : ℕ) (er : r ≡ t / 2 ^ (8 * (8 - size))) where
+      pub turned-digits : (k : ℕ) → k < size → digit 256 r k ≡ digit 256 n (significance true size k)
+      unfolding significance
+      turned-digits k h =
+          let j : 7 - (8 - size + k) ≡ size - 1 - k = omega arith in
+          ap (λ (x : ℕ). digit 256 x k) (er ∙ rw (← (pow-bits (8 - size))) refl) ∙ digit-div t (8 - size) k ∙ turned-at (8 - size + k) (omega arith) ∙ ap (digit 256 n) j
+
+      pub turned-below : r < 256 ^ size
+      turned-below =
+          let c : length (bytesOf true 8 n) ≡ 8 = bytes-length true 8 n in
+          let bits : 8 * 8 ≡ 8 * size + 8 * (8 - size) = omega arith in
+          let b : t < 2 ^ (8 * size + 8 * (8 - size)) =
+          rw (turned, ← bits, ← (pow-bits 8)) (rw c at (value-lt false (bytesOf true 8 n) (bytes-bytes true 8 n))) in
+          rw (er, pow-bits size) (shr-lt (8 * size) (8 * (8 - size)) b)

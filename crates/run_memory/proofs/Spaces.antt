@@ -2,7 +2,7 @@
 use Prim.Native.Nat.{ℕ, zero, suc, _+_, _≤_}
 use mathlib.Core.Path.{_≡_, refl, sym, subst}
 use mathlib.Core.Logic.{_⊎_, inl, inr, ⊎-elim}
-use mathlib.Core.Bool.{Bool, cond}
+use mathlib.Core.Bool.{Bool, false, cond}
 use mathlib.Core.List.{List}
 use native.Mathlib.Omega.{arith}
 use borrow.Author.Tests.{eq-eqb, ne-eqb}
@@ -46,10 +46,9 @@ module _ (m : Memory) (v : Varnode) (h : 2 ≤ v .space) (bytes : List ℕ) (e :
   unfolding bytesAt
   number-gathered big = rw (e, ne-eqb (v .space) 1 (λ z. omega arith)) refl
 
-pub labels-gathered : (m : Memory) (v : Varnode) (bytes : List ℕ) → bytes ≡ spaceOf m (v .space) → (big : Bool)
-    → valueOf big (part bytes (v .offset) (v .size)) ≡ valueOf big (bytesAt m v)
+pub labels-gathered : (m : Memory) (v : Varnode) (bytes : List ℕ) → bytes ≡ spaceOf m (v .space) → valueOf false (part bytes (v .offset) (v .size)) ≡ valueOf false (bytesAt m v)
 unfolding bytesAt
-labels-gathered m v bytes e big = rw e refl
+labels-gathered m v bytes e = rw e refl
 
 -- ---- in none of the three spaces: a constant, or absent
 

@@ -1,9 +1,9 @@
 // Taint labels. Those of a varnode go as one number, as its bytes do.
 ghost use mathlib.Core.Path.{_≡_};
 ghost use mathlib.Core.Bool.{false};
-ghost use Prim.Native.Nat.{ℕ, _≤_, _<_};
+ghost use Prim.Native.Nat.{ℕ, _^_, _≤_, _<_};
 ghost use Rattle.word.specs.Sum.{digit};
-ghost use Rattle.word.specs.Word.{valueOf, bytesOf};
+ghost use Rattle.word.specs.Word.{significance, valueOf, bytesOf};
 ghost use Rattle.machine.specs.Memory.{spaces, bytesAt, written};
 ghost use Rattle.machine.specs.Conditions.{hasSecret};
 ghost use Rattle.run_memory.specs.Placed.{Placed};
@@ -12,16 +12,10 @@ use operation::layout::Varnode;
 use word::bytes::gather;
 use word::bytes::scatter;
 
-// The number that the labels of a varnode make in a byte order. Those of a constant are 0.
-pub fn labels_at<'a>(
-    big: bool,
-    unique: &'a [u8],
-    register: &'a [u8],
-    ram: &'a [u8],
-    v: Varnode,
-) -> u64
+// The number that the labels of a varnode make as they lie in memory, which is little order. Those of a constant are 0.
+pub fn labels_at<'a>(unique: &'a [u8], register: &'a [u8], ram: &'a [u8], v: Varnode) -> u64
     requires { ⌜ Placed (spaces (now unique) (now register) (now ram)) v ⌝ }
-    ensures { λ r. ⌜ r ≡ valueOf big (bytesAt (spaces (now (unique .entry)) (now (register .entry)) (now (ram .entry))) v) ⌝ }
+    ensures { λ r. ⌜ r ≡ valueOf false (bytesAt (spaces (now (unique .entry)) (now (register .entry)) (now (ram .entry))) v) ⌝ }
 {
     if v.space < 2 {
         return 0;
@@ -29,7 +23,7 @@ pub fn labels_at<'a>(
     let labels = space_of(unique, register, ram, v.space);
     let at = v.offset as usize;
     let size = v.size as usize;
-    gather(big, labels, at, size)
+    gather(false, labels, at, size)
 }
 
 // A byte of a varnode is secret: the number that its labels make is not 0.
@@ -37,7 +31,7 @@ pub fn has_secret<'a>(unique: &'a [u8], register: &'a [u8], ram: &'a [u8], v: Va
     requires { ⌜ Placed (spaces (now unique) (now register) (now ram)) v ⌝ }
     ensures { λ r. ⌜ r ≡ hasSecret (spaces (now (unique .entry)) (now (register .entry)) (now (ram .entry))) v ⌝ }
 {
-    labels_at(false, unique, register, ram, v) != 0
+    labels_at(unique, register, ram, v) != 0
 }
 
 // Writes labels to a varnode, as the number that they make in little order; to an absent one, nothing.
@@ -65,15 +59,17 @@ pub fn each_label(label: u64) -> u64
     label * 0x0101010101010101
 }
 
-// What the bytes of a number, laid out in a byte order, are worth in little order: in big order they are turned round.
-pub fn in_memory(big: bool, size: usize, n: u64) -> u64
-    requires { ⌜ size ≤ 8 ⌝ }
-    ensures { λ r. ⌜ bytesOf false size r ≡ bytesOf big size n ⌝ }
+// The number of some bytes as they lie in memory, as that of the bytes by significance; and the other way round. In big order they are turned
+// round: the compiler turns all eight at once, and the shift drops what is above them.
+pub fn ordered(big: bool, size: u64, n: u64) -> u64
+    requires { ⌜ (1 ≤ size) × (size ≤ 8) ⌝ }
+    ensures bytes { λ r. ⌜ ((k : ℕ) → k < size → digit 256 r k ≡ digit 256 n (significance big size k)) ⌝ }
+    ensures below { λ r. ⌜ (n < 256 ^ size → r < 256 ^ size) ⌝ }
 {
     if !big {
         return n;
     }
     let mut bytes = [0u8; 8];
-    scatter(true, &mut bytes, 0, size, n);
-    gather(false, &bytes, 0, size)
+    scatter(true, &mut bytes, 0, 8, n);
+    gather(false, &bytes, 0, 8) >> (8 * (8 - size))
 }

@@ -1,17 +1,18 @@
 -- What the code relies on where it looks at the labels of an operation, and what it makes of them.
-use Prim.Native.Nat.{ℕ, _+_, _-_, _^_, _≤_, _<_}
+use Prim.Native.Nat.{ℕ, _^_, _≤_, _<_}
 use mathlib.Core.List.{List}
 use mathlib.Core.Path.{_≡_}
 use mathlib.Core.Bool.{Bool, true, false, cond}
-use lib.Dec.{eqb, ltb}
+use lib.Dec.{eqb}
 use Rattle.word.specs.Sum.{digit}
 use Rattle.word.specs.Word.{bytesOf}
+use Rattle.arithmetic.specs.Opcodes.{firstInteger, member}
 use Rattle.operation.specs.declared.layout.Varnode.{Varnode}
 use Rattle.operation.specs.Layout.{operationCount, opcodeAt, varnodeAt}
 use Rattle.operation.specs.Rules.{branches}
 use Rattle.machine.specs.Memory.{Memory, lengthsOf}
 use Rattle.machine.specs.Effect.{Operation, operationAt, pointee}
-use Rattle.machine.specs.Conditions.{destinationBytes, exactLabels}
+use Rattle.machine.specs.Conditions.{destinationBytes, labelOf, moving, labelMoved, exactLabels}
 use Rattle.run_memory.specs.Placed.{Placed}
 use Rattle.run_plan.specs.Valid.{Valid}
 
@@ -33,19 +34,18 @@ LabelWord big labels op offset word =
 unfoldable pub sourceOf : Operation → (offset : ℕ) → Varnode
 sourceOf op offset = cond (eqb (op .opcode) 2) (pointee op offset (op .output .size)) (cond (eqb (op .opcode) 3) (op .input2) (op .input0))
 
--- Sizes that rule 25 lets PIECE and INT_SEXT have, and words of these sizes.
-pub record MovableWords (opcode size size0 size1 a b : ℕ) : Type 0 where
-  pub most : size ≤ 8
-  pub joined : opcode ≡ 10 → (1 ≤ size0) × (size0 + size1 ≡ size)
-  pub extended : opcode ≡ 20 → (1 ≤ size0) × (size0 < size)
-  pub below0 : a < 256 ^ size0
-  pub below1 : b < 256 ^ size1
+-- An integer operation of a well-formed list that moves bytes: PIECE, SUBPIECE, INT_ZEXT or INT_SEXT.
+pub record MovesBytes (labels : Memory) (list : List ℕ) (i : ℕ) : Type 0 where
+  pub valid : Valid (lengthsOf labels) list
+  pub index : i < operationCount list
+  pub late : firstInteger ≤ opcodeAt list i
+  pub member : member (opcodeAt list i) moving ≡ true
 
--- Byte k of what PIECE, SUBPIECE, INT_SEXT and else INT_ZEXT make of the words a of input0 and b of input1, which has size1 bytes and, of
--- SUBPIECE, the offset `drops`; INT_SEXT fills with the top byte.
-unfoldable pub movedByte : (opcode size0 size1 drops a b k : ℕ) → ℕ
-movedByte opcode size0 size1 drops a b k =
-    cond (eqb opcode 10) (cond (ltb k size1) (digit 256 b k) (digit 256 a (k - size1)))
-    (cond (eqb opcode 11) (digit 256 a (drops + k))
-    (cond (eqb opcode 20) (cond (ltb k size0) (digit 256 a k) (digit 256 a (size0 - 1)))
-    (digit 256 a k)))
+-- A number whose bytes, from the least significant on, are the labels of a varnode by significance.
+pub record WordOf (big : Bool) (labels : Memory) (v : Varnode) (word : ℕ) : Type 0 where
+  pub bytes : (k : ℕ) → digit 256 word k ≡ labelOf big labels v k
+  pub below : word < 256 ^ v .size
+
+-- A number whose bytes are the labels that such an operation writes, by significance. None of the four looks at b.
+abbrev pub MovedWord : (big : Bool) (labels : Memory) (op : Operation) (word : ℕ) → Type 0
+MovedWord big labels op word = (b k : ℕ) → k < op .output .size → digit 256 word k ≡ labelMoved big labels op b k

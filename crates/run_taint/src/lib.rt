@@ -1,19 +1,18 @@
 // What an operation must find public, and the labels that it writes.
 ghost use mathlib.Core.Path.{_≡_};
-ghost use mathlib.Core.Bool.{true, false, cond};
+ghost use mathlib.Core.Bool.{cond};
 ghost use Prim.Native.Nat.{ℕ, _+_, _*_, _-_, _^_, _≤_, _<_};
 ghost use lib.Dec.{ltb};
 ghost use lib.ListN.{length};
 ghost use Rattle.word.specs.Sum.{digit};
-ghost use Rattle.word.specs.Word.{valueOf};
 ghost use Rattle.arithmetic.specs.Opcodes.{firstInteger, member};
 ghost use Rattle.operation.specs.Layout.{wordsPerOperation, operationCount, absent, opcodeAt};
-ghost use Rattle.machine.specs.Memory.{Memory, spaces, lengthsOf, bytesAt};
+ghost use Rattle.machine.specs.Memory.{Memory, spaces, lengthsOf};
 ghost use Rattle.machine.specs.Effect.{operationAt, pointee};
 ghost use Rattle.machine.specs.Conditions.{hasSecret, leaks, destinationBytes, moving};
 ghost use Rattle.run_memory.specs.Placed.{Placed};
 ghost use Rattle.run_plan.specs.Valid.{Valid};
-ghost use Rattle.run_taint.specs.Taint.{Readable, sourceOf, LabelWord, MovableWords, movedByte};
+ghost use Rattle.run_taint.specs.Taint.{Readable, MovesBytes, LabelWord, MovedWord, WordOf, sourceOf};
 use arithmetic::opcodes::FIRST_INTEGER;
 use arithmetic::operands::is_division;
 use integer::boolean::either;
@@ -28,9 +27,8 @@ use operation::rules::accesses;
 use operation::rules::jumps;
 use run_memory::labels::each_label;
 use run_memory::labels::has_secret;
-use run_memory::labels::in_memory;
 use run_memory::labels::labels_at;
-use word::size::low;
+use run_memory::labels::ordered;
 
 // LEAK: a byte that must be public is secret. Of a division both operands must be public, of any other integer operation none, and below them
 // at most one varnode.
@@ -98,8 +96,9 @@ pub fn target_at(list: &[u64], i: usize, offset: u64) -> Varnode
     varnode_at(list, i, 0)
 }
 
-// The labels that operation i writes to its target, as the number that they make in little order. A move takes each byte's label along; of any
-// other operation all bytes become secret if a byte of an input is.
+// The labels that operation i writes to its target, as the number that they make in little order. COPY, LOAD and STORE keep bytes in their
+// places, in either order; PIECE, SUBPIECE, INT_ZEXT and INT_SEXT move them by significance; of any other operation all bytes become secret if a
+// byte of an input is.
 pub fn labels_written<'a>(
     big: bool,
     list: &[u64],
@@ -112,105 +111,19 @@ pub fn labels_written<'a>(
     requires { ⌜ Readable (spaces (now unique) (now register) (now ram)) (now list) i offset ⌝ }
     ensures { λ r. ⌜ LabelWord big (spaces (now (unique .entry)) (now (register .entry)) (now (ram .entry))) (operationAt (now (list .entry)) i) offset r ⌝ }
 {
-    if moves(opcode_at(list, i)) {
-        return moved_labels(big, list, unique, register, ram, i, offset);
+    let opcode = opcode_at(list, i);
+    if opcode < FIRST_INTEGER {
+        let source = source_at(list, i, offset);
+        return labels_at(unique, register, ram, source);
+    }
+    if moves(opcode) {
+        let output = varnode_at(list, i, 0);
+        let word = moved_word(big, list, unique, register, ram, i);
+        return ordered(big, output.size, word);
     }
     let first = has_secret(unique, register, ram, varnode_at(list, i, 1));
     let second = has_secret(unique, register, ram, varnode_at(list, i, 2));
     each_label(flag(either(first, second)))
-}
-
-// COPY, LOAD, STORE, PIECE, SUBPIECE, INT_ZEXT, INT_SEXT. The first test tells most of the others; a test a line, as the classes of
-// `operation::rules`.
-fn moves(opcode: u64) -> bool
-    ensures { λ r. ⌜ r ≡ member opcode moving ⌝ }
-{
-    if 20 < opcode {
-        return false;
-    }
-    if opcode == 1 {
-        return true;
-    }
-    if opcode == 2 {
-        return true;
-    }
-    if opcode == 3 {
-        return true;
-    }
-    if opcode == 10 {
-        return true;
-    }
-    if opcode == 11 {
-        return true;
-    }
-    if opcode == 19 {
-        return true;
-    }
-    opcode == 20
-}
-
-// The labels that a move writes. COPY, LOAD and STORE keep the bytes in their places, in either order; the others work by significance.
-fn moved_labels<'a>(
-    big: bool,
-    list: &[u64],
-    unique: &'a [u8],
-    register: &'a [u8],
-    ram: &'a [u8],
-    i: usize,
-    offset: u64,
-) -> u64
-    requires { ⌜ Readable (spaces (now unique) (now register) (now ram)) (now list) i offset × (member (opcodeAt (now list) i) moving ≡ true) ⌝ }
-    ensures { λ r. ⌜ LabelWord big (spaces (now (unique .entry)) (now (register .entry)) (now (ram .entry))) (operationAt (now (list .entry)) i) offset r ⌝ }
-{
-    let opcode = opcode_at(list, i);
-    if opcode < FIRST_INTEGER {
-        let source = source_at(list, i, offset);
-        return labels_at(false, unique, register, ram, source);
-    }
-    let output = varnode_at(list, i, 0);
-    let input0 = varnode_at(list, i, 1);
-    let input1 = varnode_at(list, i, 2);
-    let a = read_labels0(big, unique, register, ram, input0);
-    let b = read_labels1(big, unique, register, ram, input1);
-    let word = moved_word(opcode, output.size, input0.size, input1, a, b);
-    in_memory(big, output.size as usize, word)
-}
-
-// As labels_at, with a constant for the order of each call. A reader for each of the two reads, since with two callers it would be called and
-// not inlined, as the plan's readers (docs/DECISIONS.md).
-fn read_labels0<'a>(
-    big: bool,
-    unique: &'a [u8],
-    register: &'a [u8],
-    ram: &'a [u8],
-    v: Varnode,
-) -> u64
-    requires { ⌜ Placed (spaces (now unique) (now register) (now ram)) v ⌝ }
-    ensures { λ r. ⌜ r ≡ valueOf big (bytesAt (spaces (now (unique .entry)) (now (register .entry)) (now (ram .entry))) v) ⌝ }
-{
-    if big {
-        labels_at(true, unique, register, ram, v)
-    } else {
-        labels_at(false, unique, register, ram, v)
-    }
-}
-
-// As read_labels0.
-fn read_labels1<'a>(
-    big: bool,
-    unique: &'a [u8],
-    register: &'a [u8],
-    ram: &'a [u8],
-    v: Varnode,
-) -> u64
-    requires { ⌜ Placed (spaces (now unique) (now register) (now ram)) v ⌝ }
-    ensures { λ r. ⌜ r ≡ valueOf big (bytesAt (spaces (now (unique .entry)) (now (register .entry)) (now (ram .entry))) v) ⌝ }
-{
-    if big {
-        labels_at(true, unique, register, ram, v)
-    } else {
-        labels_at(false, unique, register, ram, v)
-    }
 }
 
 // What COPY, LOAD and STORE read: input0, the bytes loaded, or input2.
@@ -229,26 +142,71 @@ fn source_at(list: &[u64], i: usize, offset: u64) -> Varnode
     varnode_at(list, i, 1)
 }
 
-// What PIECE, SUBPIECE, INT_ZEXT and INT_SEXT make of label words: a of input0 and b of input1. The value goes the same way, but for the fill
-// of INT_SEXT: a label is no sign.
-fn moved_word(opcode: u64, size: u64, size0: u64, input1: Varnode, a: u64, b: u64) -> u64
-    requires { ⌜ MovableWords opcode size size0 (input1 .size) a b ⌝ }
-    ensures { λ r. ⌜ ((k : ℕ) → k < size → digit 256 r k ≡ movedByte opcode size0 (input1 .size) (input1 .offset) a b k) ⌝ }
+// Of the integer operations PIECE, SUBPIECE, INT_ZEXT and INT_SEXT move bytes. The first test tells most of the others; a test a line, as the
+// classes of `operation::rules`.
+fn moves(opcode: u64) -> bool
+    requires { ⌜ firstInteger ≤ opcode ⌝ }
+    ensures { λ r. ⌜ r ≡ member opcode moving ⌝ }
 {
+    if 20 < opcode {
+        return false;
+    }
+    if opcode == 10 {
+        return true;
+    }
+    if opcode == 11 {
+        return true;
+    }
+    if opcode == 19 {
+        return true;
+    }
+    opcode == 20
+}
+
+// The labels that these four write, as the number that they make by significance; what it has above the output is free. The value goes the
+// same way, but for the fill of INT_SEXT: a label is no sign.
+fn moved_word<'a>(
+    big: bool,
+    list: &[u64],
+    unique: &'a [u8],
+    register: &'a [u8],
+    ram: &'a [u8],
+    i: usize,
+) -> u64
+    requires { ⌜ MovesBytes (spaces (now unique) (now register) (now ram)) (now list) i ⌝ }
+    ensures { λ r. ⌜ MovedWord big (spaces (now (unique .entry)) (now (register .entry)) (now (ram .entry))) (operationAt (now (list .entry)) i) r ⌝ }
+{
+    let opcode = opcode_at(list, i);
+    let output = varnode_at(list, i, 0);
+    let input0 = varnode_at(list, i, 1);
+    let input1 = varnode_at(list, i, 2);
+    let a = labels_of(big, unique, register, ram, input0);
     match opcode {
-        10 => piece(input1.size, a, b),
-        11 => subpiece(size, a, input1.offset),
-        20 => extended_word(size, size0, a),
+        10 => piece(
+            input1.size,
+            a,
+            labels_of(big, unique, register, ram, input1),
+        ),
+        11 => subpiece(output.size, a, input1.offset),
+        20 => extended_word(input0.size, a),
         _ => a,
     }
 }
 
+// The labels of a varnode as the number that they make by significance.
+fn labels_of<'a>(big: bool, unique: &'a [u8], register: &'a [u8], ram: &'a [u8], v: Varnode) -> u64
+    requires { ⌜ Placed (spaces (now unique) (now register) (now ram)) v × (1 ≤ v .size) ⌝ }
+    ensures { λ r. ⌜ WordOf big (spaces (now (unique .entry)) (now (register .entry)) (now (ram .entry))) v r ⌝ }
+{
+    let labels = labels_at(unique, register, ram, v);
+    ordered(big, v.size, labels)
+}
+
 // INT_SEXT of a label word: the top label in each byte above.
-fn extended_word(size: u64, size0: u64, a: u64) -> u64
-    requires { ⌜ (1 ≤ size0) × (size0 < size) × (size ≤ 8) × (a < 256 ^ size0) ⌝ }
-    ensures { λ r. ⌜ ((k : ℕ) → k < size → digit 256 r k ≡ cond (ltb k size0) (digit 256 a k) (digit 256 a (size0 - 1))) ⌝ }
+fn extended_word(size0: u64, a: u64) -> u64
+    requires { ⌜ (1 ≤ size0) × (size0 < 8) × (a < 256 ^ size0) ⌝ }
+    ensures { λ r. ⌜ ((k : ℕ) → k < 8 → digit 256 r k ≡ cond (ltb k size0) (digit 256 a k) (digit 256 a (size0 - 1))) ⌝ }
 {
     let top = a >> (8 * (size0 - 1));
-    let fill = low(size - size0, each_label(top));
-    piece(size0, fill, a)
+    (each_label(top) << (8 * size0)) + a
 }

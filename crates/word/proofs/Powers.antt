@@ -1,10 +1,10 @@
 -- Powers of 256 and numbers cut to a size.
 use mathlib.Core.Path.{_≡_, refl, sym, ap, _∙_, subst}
 use Prim.Native.Nat.{ℕ, zero, suc, _+_, _-_, _*_, _/_, _%_, _^_, _≤_, _<_}
-use native.Mathlib.Nat.{pow-suc, mod-lt, mod-eq-of-lt, div-add-mod', lt-of-mul-lt-mul-right, mul-add-mod-self-right, pow-le-pow-right, one-le-pow}
+use native.Mathlib.Nat.{add-zero, pow-suc, mod-lt, mod-eq-of-lt, div-add-mod', lt-of-mul-lt-mul-right, mul-add-mod-self-right, pow-le-pow-right, one-le-pow}
 use native.Mathlib.Omega.{arith}
 use lib.Dec.{lit<}
-use lib.Pow.{pow-add, mod-mod-pow, ones-split, ones-lt, high}
+use lib.Pow.{pow-pos, pow-add, mod-mod-pow, mod-pow-add, ones-split, ones-lt, high, low}
 
 eight : (k : ℕ) → 8 * k + 8 ≡ 8 * suc k
 eight k = omega arith
@@ -35,6 +35,15 @@ word-of s h =
 -- a shift by whole bytes that loses nothing
 pub shifted-bytes : (a k : ℕ) → a * 256 ^ k < 2 ^ 64 → a * 2 ^ (8 * k) % 2 ^ 64 ≡ a * 256 ^ k
 shifted-bytes a k h = rw (← (pow-bits k)) (mod-eq-of-lt h)
+
+-- a shift by whole bytes loses what does not fit above them
+pub shifted-low : (a k : ℕ) → k ≤ 8 → a * 2 ^ (8 * k) % 2 ^ 64 ≡ a % 256 ^ (8 - k) * 256 ^ k
+shifted-low a k h =
+    let e : 64 ≡ 8 * (8 - k) + 8 * k = omega arith in
+    let whole : a * 2 ^ (8 * k) / 2 ^ (8 * k) ≡ a = rw add-zero at (high a (8 * k) (pow-pos (8 * k))) in
+    let none : a * 2 ^ (8 * k) % 2 ^ (8 * k) ≡ 0 = rw add-zero at (low a (8 * k) (pow-pos (8 * k))) in
+    rw (pow-bits k, pow-bits (8 - k))
+    (ap (λ (n : ℕ). a * 2 ^ (8 * k) % 2 ^ n) e ∙ mod-pow-add (a * 2 ^ (8 * k)) (8 * (8 - k)) (8 * k) ∙ rw (whole, none) (add-zero _))
 
 -- a remainder by 2^64 does not change the remainder by a smaller power
 pub low-part : (x s : ℕ) → s ≤ 8 → x % 2 ^ 64 % 256 ^ s ≡ x % 256 ^ s

@@ -6,7 +6,7 @@ use Rattle.run_memory.proofs.labels.labels_at.Statement.{statement}
 use Rattle.run_memory.proofs.labels.labels_at.Tie as tie
 
 returns : tie.Need-returns
-returns c = sym (constant-labels _ _ _ (c .if1 .taken))
+returns c = sym (constant-labels _ _ (c .if1 .taken))
 
 space-of-requires : tie.Need-space-of-requires
 space-of-requires c κs =
@@ -20,7 +20,7 @@ gather-requires c κs =
     may-gather _ _ (c .before .if1 .left) _ (c .space-of .ensures) (entry .pre)
 
 returns-2 : tie.Need-returns-2
-returns-2 c = c .gather .ensures ∙ labels-gathered _ _ _ (c .before .space-of .ensures) _
+returns-2 c = c .gather .ensures ∙ labels-gathered _ _ _ (c .before .space-of .ensures)
 
 pub labels-at-spec : {M : Type 1} → statement M
 labels-at-spec = tie.close (tie.spec returns space-of-requires gather-requires returns-2)
