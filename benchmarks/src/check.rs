@@ -2,7 +2,7 @@
 //! the speculative run without a window, and with one but for the words of its windows.
 
 use crate::library::{Labels, Program, State, LARGEST_WINDOW};
-use crate::loops::{branching_loops, loops, packing_loops, straight};
+use crate::loops::{branching_loops, loops, packing_loops, repeated_operations, straight};
 use crate::{run, Kind};
 
 const OPERATIONS: u32 = 1_000;
@@ -30,6 +30,14 @@ fn loops_agree() {
             check(&timed.program, OPERATIONS, &timed.state);
         assert_eq!([ending, executed, value], [2, u64::from(OPERATIONS), 0], "{}", timed.name);
         assert!(log_words > 0, "{} wrote no log word", timed.name);
+    }
+}
+
+#[test]
+fn repeated_operations_agree() {
+    for timed in repeated_operations(OPERATIONS) {
+        let [ending, _, executed, ..] = check(&timed.program, OPERATIONS, &timed.state);
+        assert_eq!([ending, executed], [2, u64::from(OPERATIONS)], "{}", timed.name);
     }
 }
 

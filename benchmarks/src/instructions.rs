@@ -6,11 +6,13 @@ use std::hint::black_box;
 use std::process::Command;
 
 use crate::library::{Labels, Program, State};
-use crate::loops::{branching_loops, loops, packing_loops, straight, Loop};
+use crate::loops::{branching_loops, loops, packing_loops, repeated_operations, straight, Loop};
 use crate::{run, Kind};
 
 /// Two budgets: the difference of their counts has no part of the call's own cost.
 const BUDGETS: [u32; 2] = [5_000, 15_000];
+/// The same of one operation, repeated, of which a list has 4,000.
+const REPEATED_BUDGETS: [u32; 2] = [1_000, 3_000];
 /// The same where windows bring 28 operations for each.
 const WINDOW_BUDGETS: [u32; 2] = [500, 1_500];
 /// More log words than an operation of a branching loop writes, windows included.
@@ -30,6 +32,16 @@ pub fn print() -> Result<(), String> {
             }
             println!();
         }
+    }
+    println!("operation     order    plain  labelled");
+    for (number, timed) in repeated_operations(0).iter().enumerate() {
+        print!("{:<12}  {:<6}", timed.name, timed.order_name());
+        for (kind, width) in [("plain", 7), ("labelled", 10)] {
+            let count =
+                |budget: u32| counted(&["alone", kind, &number.to_string(), &budget.to_string()]);
+            print!("{:width$.1}", slope(REPEATED_BUDGETS, count)?);
+        }
+        println!();
     }
     println!("loop       size  order    labelled  W = 0   W = 64");
     for (number, timed) in branching_loops(0).iter().enumerate() {
@@ -102,6 +114,10 @@ pub fn once(words: &[&str]) -> Result<(), String> {
         ["packing", kind, place, budget] => {
             let budget = number(budget)?;
             run_loop(kind, packing_loops(budget), place, budget)?;
+        }
+        ["alone", kind, place, budget] => {
+            let budget = number(budget)?;
+            run_loop(kind, repeated_operations(budget), place, budget)?;
         }
         ["branching", kind, place, budget] => {
             let budget = number(budget)?;

@@ -5,7 +5,8 @@ use crate::library::{Program, State, JOURNAL_WORDS};
 /// A program and what it starts with.
 pub struct Loop {
     pub name: &'static str,
-    /// The size in bytes of what is counted, copied and pointed with. A condition has 1.
+    /// The size in bytes of what is counted, copied, packed and pointed with. A condition has 1, and each half of
+    /// what is packed half of it.
     pub size: u64,
     pub program: Program,
     pub state: State,
@@ -128,7 +129,7 @@ fn copying_loop(operations: u32, size: u64, order: u64) -> Loop {
 }
 
 /// Takes a word apart, extends its halves and exchanges them: six operations a round, of which five move
-/// bytes, and labels with them, by significance.
+/// bytes, and labels with them, by significance. One half of the word is negative, in either size and order.
 fn packing_loop(operations: u32, size: u64, order: u64) -> Loop {
     let half = size / 2;
     let word = (3, size);
@@ -149,7 +150,7 @@ fn packing_loop(operations: u32, size: u64, order: u64) -> Loop {
     ];
     let program = Program { order, address_size: size, list: list.concat() };
     let mut state = state(operations, 0);
-    state.register = (1..=64).map(|number| 3 * number).collect();
+    state.register[..8].copy_from_slice(&[0x81, 2, 3, 0x84, 5, 6, 7, 8]);
     Loop { name: "packing", size, program, state }
 }
 
@@ -188,6 +189,29 @@ fn state(operations: u32, ram_len: usize) -> State {
         log: vec![0; operations as usize],
         journal: vec![0; JOURNAL_WORDS],
     }
+}
+
+/// Lists of 4,000 times the same operation on 8 bytes: each that moves bytes, and two that compute. They have
+/// room in the log for this many operations.
+pub fn repeated_operations(operations: u32) -> Vec<Loop> {
+    let (word, half, constant) = ((3, 8), (3, 4), (1, 8));
+    let named = [
+        ("COPY", [head(1, &[word, word]), 8, 0, 0, 0]),
+        ("LOAD", [head(2, &[word, SPACE, constant]), 8, RAM, 0, 0]),
+        ("STORE", [head(3, &[ABSENT, SPACE, constant, word]), 0, RAM, 0, 0]),
+        ("PIECE", [head(10, &[word, half, half]), 8, 0, 4, 0]),
+        ("SUBPIECE", [head(11, &[half, word, COUNT]), 8, 0, 1, 0]),
+        ("INT_ZEXT", [head(19, &[word, half]), 8, 0, 0, 0]),
+        ("INT_SEXT", [head(20, &[word, half]), 8, 0, 0, 0]),
+        ("INT_ADD", [head(21, &[word, word, word]), 8, 0, 0, 0]),
+        ("INT_NOTEQUAL", [head(14, &[CONDITION, word, word]), 0, 0, 8, 0]),
+    ];
+    let repeated = |(name, operation): (&'static str, [u64; 5]), order| {
+        let list = vec![operation; 4_000].concat();
+        let program = Program { order, address_size: 8, list };
+        Loop { name, size: 8, program, state: state(operations, 8) }
+    };
+    named.into_iter().flat_map(|named| [LITTLE, BIG].map(|order| repeated(named, order))).collect()
 }
 
 /// A list of so many INT_ADD operations, and ram of so many bytes.

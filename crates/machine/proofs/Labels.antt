@@ -7,7 +7,6 @@ use mathlib.Core.List.{List, [], _∷_, append-nil}
 use borrow.Author.Tests.{eqb-true, ltb-true, ltb-false, lt-ltb}
 use lib.Dec.{ltb, eqb}
 use lib.ListN.{length, getD}
-use Rattle.word.specs.Sum.{digit}
 use Rattle.word.specs.Word.{part, significance, valueOf, bytesOf}
 use Rattle.word.proofs.Sums.{tabulate-past, tabulate-same}
 use Rattle.word.proofs.Laws.{significance-lt, significance-twice, part-at, part-bytes, value-lt, written-read}
@@ -19,7 +18,7 @@ use Rattle.machine.specs.Memory.{Memory, OfBytes, spaceOf, bytesAt, orde
 use Rattle.machine.specs.Effect.{Operation, dropped, moves, origin, entryFrom, labelsOf, labelFill, secret, labelsWritten}
 use Rattle.machine.specs.Conditions.{labelOf, labelJoined, labelExtended, labelMoved, becomesSecret, labelWritten, exactLabels}
 use Rattle.machine.proofs.Cases.{either-equal}
-use Rattle.machine.proofs.Moves.{length-ordered, ordered-at, bytes-count, ordered-number, entry, joined-at, taken, extended, moved-is}
+use Rattle.machine.proofs.Moves.{length-ordered, ordered-at, bytes-count, joined-at, taken, extended, moved-is}
 
 -- ---- the labels of a varnode
 
@@ -57,21 +56,17 @@ module _ (big : Bool) (labels : Memory) (v : Varnode) where
   label-either true j k = refl
   label-either false j k = refl
 
-  -- as a number
-  module _ (h : OfBytes labels) where
-    pub word-fits : valueOf big (bytesAt labels v) < 256 ^ v .size
-    unfolding bytesAt
-    word-fits = rw (bytes-count labels v) at (value-lt big (bytesAt labels v) (part-bytes (spaceOf labels (v .space)) (v .offset) (v .size) (h (v .space))))
+-- as a number in little order
+module _ (labels : Memory) (v : Varnode) (h : OfBytes labels) where
+  pub word-fits : valueOf false (bytesAt labels v) < 256 ^ v .size
+  unfolding bytesAt
+  word-fits = rw (bytes-count labels v) at (value-lt false (bytesAt labels v) (part-bytes (spaceOf labels (v .space)) (v .offset) (v .size) (h (v .space))))
 
-    pub word-digit : (k : ℕ) → digit 256 (valueOf big (bytesAt labels v)) k ≡ labelOf big labels v k
-    word-digit k =
-        sym (entry (v .size) (valueOf big (bytesAt labels v)) k word-fits) ∙ ap (λ (l : List ℕ). getD l k 0) (sym (ordered-number big labels v h)) ∙ label-at k
-
-pub word-bytes : (labels : Memory) (v : Varnode) → OfBytes labels → bytesOf false (v .size) (valueOf false (bytesAt labels v)) ≡ bytesAt labels v
-unfolding bytesAt
-word-bytes labels v h =
-    ap (λ (n : ℕ). bytesOf false n (valueOf false (bytesAt labels v))) (sym (bytes-count labels v))
-    ∙ written-read false (bytesAt labels v) (part-bytes (spaceOf labels (v .space)) (v .offset) (v .size) (h (v .space)))
+  pub word-bytes : bytesOf false (v .size) (valueOf false (bytesAt labels v)) ≡ bytesAt labels v
+  unfolding bytesAt
+  word-bytes =
+      ap (λ (n : ℕ). bytesOf false n (valueOf false (bytesAt labels v))) (sym (bytes-count labels v))
+      ∙ written-read false (bytesAt labels v) (part-bytes (spaceOf labels (v .space)) (v .offset) (v .size) (h (v .space)))
 
 -- ---- the labels written
 

@@ -52,7 +52,7 @@ ordered-back big n x =
     (λ i h. bytes-at big n x (significance big n i) (significance-lt big n i h) ∙ ap (digit 256 x) (significance-twice big n i h) ∙ sym (bytes-at false n x i h)))
 
 -- a varnode's bytes by significance are those of the number that they make
-pub ordered-number : (big : Bool) (m : Memory) (v : Varnode) → OfBytes m → ordered big (bytesAt m v) ≡ bytesOf false (v .size) (valueOf big (bytesAt m v))
+ordered-number : (big : Bool) (m : Memory) (v : Varnode) → OfBytes m → ordered big (bytesAt m v) ≡ bytesOf false (v .size) (valueOf big (bytesAt m v))
 unfolding bytesAt
 ordered-number big m v h =
     ap (ordered big) (sym (written-read big (bytesAt m v) (part-bytes (spaceOf m (v .space)) (v .offset) (v .size) (h (v .space)))))
@@ -69,7 +69,7 @@ digits-of settings m v h = by (eqb (v .space) 1)
     by false = ordered-number (bigEndian settings) m v h
 
 -- the bytes of a number that fits, and none above them
-pub entry : (s x j : ℕ) → x < 256 ^ s → getD (bytesOf false s x) j 0 ≡ digit 256 x j
+entry : (s x j : ℕ) → x < 256 ^ s → getD (bytesOf false s x) j 0 ≡ digit 256 x j
 unfolding significance bytesOf
 entry s x j h = by (ltb j s) refl
   where

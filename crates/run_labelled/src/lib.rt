@@ -1,7 +1,7 @@
 // Both runs. A turn looks for LEAK, runs operations by the plain loop, and marks what was written. A labelled run gives each turn one
 // operation; a plain run is one turn with the whole budget. The plain loop and the turn have one caller each, so that the compiler inlines them.
 ghost use mathlib.Core.Path.{_≡_};
-ghost use mathlib.Core.Bool.{true, false, cond, not, _&&_};
+ghost use mathlib.Core.Bool.{true, cond, not, _&&_};
 ghost use Prim.Native.Nat.{_+_, _*_, _≤_, _<_};
 ghost use lib.Dec.{eqb, ltb};
 ghost use lib.ListN.{length};

@@ -12,7 +12,8 @@ use operation::layout::Varnode;
 use word::bytes::gather;
 use word::bytes::scatter;
 
-// The number that the labels of a varnode make as they lie in memory, which is little order. Those of a constant are 0.
+// The number that the labels of a varnode make in little order, whatever the byte order is: the first in memory counts least. Those of a constant
+// are 0.
 pub fn labels_at<'a>(unique: &'a [u8], register: &'a [u8], ram: &'a [u8], v: Varnode) -> u64
     requires { ⌜ Placed (spaces (now unique) (now register) (now ram)) v ⌝ }
     ensures { λ r. ⌜ r ≡ valueOf false (bytesAt (spaces (now (unique .entry)) (now (register .entry)) (now (ram .entry))) v) ⌝ }
@@ -59,8 +60,8 @@ pub fn each_label(label: u64) -> u64
     label * 0x0101010101010101
 }
 
-// The number of some bytes as they lie in memory, as that of the bytes by significance; and the other way round. In big order they are turned
-// round: the compiler turns all eight at once, and the shift drops what is above them.
+// The number that `size` bytes in memory make in little order, as the number that they make in the byte order; or back. In big order all eight bytes of
+// it are turned round, which the compiler does at once; what was above the `size` bytes is below them then, and the shift drops it.
 pub fn ordered(big: bool, size: u64, n: u64) -> u64
     requires { ⌜ (1 ≤ size) × (size ≤ 8) ⌝ }
     ensures bytes { λ r. ⌜ ((k : ℕ) → k < size → digit 256 r k ≡ digit 256 n (significance big size k)) ⌝ }

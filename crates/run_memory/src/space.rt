@@ -15,7 +15,7 @@ pub fn lengths_of(unique: &[u8], register: &[u8], ram: &[u8]) -> Lengths
     }
 }
 
-// The bytes of a space with bytes, by its number.
+// The bytes of a space with bytes, by its number. Register stands first for speed (docs/DECISIONS.md).
 pub(crate) fn space_of<'a>(
     unique: &'a [u8],
     register: &'a [u8],
@@ -26,8 +26,8 @@ pub(crate) fn space_of<'a>(
     ensures { λ r. ⌜ now r ≡ spaceOf (spaces (now (unique .entry)) (now (register .entry)) (now (ram .entry))) space ⌝ }
 {
     match space {
-        2 => unique,
         3 => register,
+        2 => unique,
         _ => ram,
     }
 }

@@ -5,7 +5,7 @@ use native.Mathlib.Nat.{mod-lt, lt-of-lt-of-le}
 use mathlib.Core.Path.{_≡_, refl, sym, ap, subst, _∙_}
 use mathlib.Core.Bool.{Bool, true, false, cond, not, _&&_, _||_, true≢false}
 use mathlib.Core.List.{List, [], _∷_}
-use borrow.Author.Tests.{ltb-true, ltb-false, le-ltb, eqb-true, ne-eqb, not-false}
+use borrow.Author.Tests.{ltb-true, ltb-false, eqb-true, ne-eqb, not-false}
 use lib.Dec.{eqb, ltb}
 use lib.ListN.{length, getD}
 use Rattle.word.specs.Sum.{tabulate, digit}
@@ -29,7 +29,7 @@ use Rattle.machine.specs.Conditions.{hasSecret, destinationBytes, labelOf, labe
 use Rattle.machine.proofs.Cases.{either-equal}
 use Rattle.machine.proofs.Conditions.{when, no-move, larger}
 use Rattle.machine.proofs.Moves.{bytes-count}
-use Rattle.machine.proofs.Labels.{label-either, label-in-memory, word-fits, word-bytes, word-digit}
+use Rattle.machine.proofs.Labels.{label-either, label-in-memory, word-fits, word-bytes}
 use Rattle.run_memory.specs.Placed.{Placed}
 use Rattle.run_plan.proofs.Opcodes.{late-no-branch}
 use Rattle.run_taint.specs.Taint.{Readable, MovesBytes, LabelWord, WordOf, MovedWord, sourceOf}
@@ -129,32 +129,31 @@ module _ (big : Bool) (labels : Memory) (op : Operation) (offset : ℕ) (e : mem
       (λ i l. bytes-at false size r i l ∙ er i l ∙ h offset (significance big size i) (significance-lt big size i l) ∙ told _))
 
 -- the labels of a varnode, by significance
-module _ (big : Bool) (labels : Memory) (bytes : OfBytes labels) (v : Varnode) where
-  ordered-label : (k : ℕ) → k < v .size → labelOf false labels v (significance big (v .size) k) ≡ labelOf big labels v k
+module _ (big : Bool) (labels : Memory) (v : Varnode) where
+  pub word-ordered : OfBytes labels → (n : ℕ) → n ≡ valueOf false (bytesAt labels v)
+      → (r : ℕ) → ((k : ℕ) → k < v .size → digit 256 r k ≡ digit 256 n (significance big (v .size) k)) → (n < 256 ^ v .size → r < 256 ^ v .size) → WordOf big labels v r
   unfolding significance
-  ordered-label k h =
-      label-in-memory false labels v (significance big (v .size) k) (significance-lt big (v .size) k h)
-      ∙ sym (label-in-memory big labels v (significance big (v .size) k) (significance-lt big (v .size) k h))
-      ∙ ap (labelOf big labels v) (significance-twice big (v .size) k h)
-
-  label-past : (k : ℕ) → v .size ≤ k → labelOf big labels v k ≡ 0
-  unfolding labelOf
-  label-past k h = rw (le-ltb k (v .size) h) (either-equal (eqb (v .space) 1) refl refl)
-
-  pub word-ordered : (n : ℕ) → n ≡ valueOf false (bytesAt labels v) → (r : ℕ) → ((k : ℕ) → k < v .size → digit 256 r k ≡ digit 256 n (significance big (v .size) k))
-      → (n < 256 ^ v .size → r < 256 ^ v .size) → WordOf big labels v r
-  word-ordered n en r er below = record { bytes = λ k. by k (ltb k (v .size)) refl; below = fits }
+  word-ordered bytes n en r er below = record { bytes = at; below = below (rw en (word-fits labels v bytes)) }
     where
-      fits : r < 256 ^ v .size
-      fits = below (rw en (word-fits false labels v bytes))
+      at : (k : ℕ) → k < v .size → digit 256 r k ≡ labelOf big labels v k
+      at k l =
+          let place : ℕ = significance big (v .size) k in
+          let inside : place < v .size = significance-lt big (v .size) k l in
+          er k l ∙ sym (bytes-at false (v .size) n place inside)
+          ∙ ap (λ (bs : List ℕ). getD bs place 0) (ap (bytesOf false (v .size)) en ∙ word-bytes labels v bytes)
+          ∙ sym (label-in-memory big labels v place inside) ∙ ap (labelOf big labels v) (significance-twice big (v .size) k l)
 
-      by : (k : ℕ) (t : Bool) → ltb k (v .size) ≡ t → digit 256 r k ≡ labelOf big labels v k
-      by k true e =
-          let l : k < v .size = ltb-true k (v .size) e in
-          er k l ∙ ap (λ (x : ℕ). digit 256 x (significance big (v .size) k)) en ∙ word-digit false labels v bytes _ ∙ ordered-label k l
-      by k false e = let l : v .size ≤ k = ltb-false k (v .size) e in digit-past (v .size) r k fits l ∙ sym (label-past k l)
+  -- above it there is nothing, as above the varnode
+  word-label : (word : ℕ) → WordOf big labels v word → (k : ℕ) → digit 256 word k ≡ labelOf big labels v k
+  unfolding labelOf
+  word-label word w k = by (ltb k (v .size)) refl
+    where
+      by : (t : Bool) → ltb k (v .size) ≡ t → digit 256 word k ≡ labelOf big labels v k
+      by true e = w .bytes k (ltb-true k (v .size) e)
+      by false e = digit-past (v .size) word k (w .below) (ltb-false k (v .size) e) ∙ rw e (sym (either-equal (eqb (v .space) 1) refl refl))
 
--- all others: the same label for each byte
+-- ---- operations that compute
+
 pub flag-small : (t : Bool) → flag t < 256
 unfolding flag
 flag-small true = omega arith
@@ -174,6 +173,7 @@ late-no-move n l =
     )
     refl
 
+-- the same label for each byte
 pub word-whole : (big : Bool) (labels : Memory) (op : Operation) (offset : ℕ) → member (op .opcode) moving ≡ false → destinationBytes op offset .size ≤ 8
     → (s0 s1 : Bool) → s0 ≡ hasSecret labels (op .input0) → s1 ≡ hasSecret labels (op .input1)
     → (r : ℕ) → ((k : ℕ) → k < 8 → digit 256 r k ≡ flag (s0 || s1)) → LabelWord big labels op offset r
@@ -183,7 +183,7 @@ word-whole big labels op offset e most s0 s1 e0 e1 r h =
     told-are big labels op offset (destinationBytes op offset .size) (bytesOf false (destinationBytes op offset .size) r) (bytes-length false _ r)
     (λ i l. bytes-at false (destinationBytes op offset .size) r i l ∙ h i (omega arith) ∙ rw (e0, e1, e, n .1, n .2, or-false) refl)
 
--- ---- COPY, LOAD and STORE, and what else the code looks at by the byte offset
+-- ---- what the code relies on at an operation that writes
 
 -- below the integer operations nothing else writes
 other-output : ℕ → ℕ
@@ -254,7 +254,7 @@ module _ (labels : Memory) (list : List ℕ) (i offset : ℕ) (pre : Readable la
       by false e = rw (nothing-else e early) refl
 
   pub moves-bytes : firstInteger ≤ opcodeAt list i → member (opcodeAt list i) moving ≡ true → MovesBytes labels list i
-  moves-bytes l e = record { valid = pre .valid; index = pre .index; late = l; member = e }
+  moves-bytes l e = record { valid = pre .valid; index = pre .index; integer = l; moves = e }
 
   pub whole-most : member (opcodeAt list i) moving ≡ false → destinationBytes (operationAt list i) offset .size ≤ 8
   unfolding destinationBytes operationAt
@@ -275,18 +275,18 @@ each-late-move P p10 p11 p19 p20 n l e =
 
 module _ (labels : Memory) (list : List ℕ) (i : ℕ) (pre : MovesBytes labels list i) where
   pub place-moved : (k : ℕ) → k ≤ mostInputs → Placed labels (varnodeAt list i k)
-  place-moved k l = place labels list (pre .valid) i (pre .index) k l (λ z. late-no-branch (opcodeAt list i) (pre .late))
+  place-moved k l = place labels list (pre .valid) i (pre .index) k l (λ z. late-no-branch (opcodeAt list i) (pre .integer))
 
   some : (k : ℕ) → k ≤ mostInputs → hasPlace (opcodeAt list i) k ≡ true → 1 ≤ varnodeAt list i k .size
   some k l h = pre .valid .operations i (pre .index) .present k l h .2
 
   pub some-output : 1 ≤ varnodeAt list i 0 .size
   unfolding hasPlace outputs inputs rowOf opcodes
-  some-output = some 0 (omega arith) (each-late-move (λ n. hasPlace n 0 ≡ true) refl refl refl refl (opcodeAt list i) (pre .late) (pre .member))
+  some-output = some 0 (omega arith) (each-late-move (λ n. hasPlace n 0 ≡ true) refl refl refl refl (opcodeAt list i) (pre .integer) (pre .moves))
 
   pub some-input0 : 1 ≤ varnodeAt list i 1 .size
   unfolding hasPlace outputs inputs rowOf opcodes
-  some-input0 = some 1 (omega arith) (each-late-move (λ n. hasPlace n 1 ≡ true) refl refl refl refl (opcodeAt list i) (pre .late) (pre .member))
+  some-input0 = some 1 (omega arith) (each-late-move (λ n. hasPlace n 1 ≡ true) refl refl refl refl (opcodeAt list i) (pre .integer) (pre .moves))
 
   pub some-input1 : opcodeAt list i ≡ 10 → 1 ≤ varnodeAt list i 2 .size
   unfolding hasPlace outputs inputs rowOf opcodes
@@ -310,9 +310,12 @@ module _ (labels : Memory) (list : List ℕ) (i : ℕ) (pre : MovesBytes labels 
       (cond (eqb (opcodeAt list i) 20) (labelExtended big labels (operationAt list i) k)
       (labelOf big labels (varnodeAt list i 1) k)))
   unfolding labelMoved operationAt
-  late-label big b k = let l = pre .late in rw (ne-eqb (opcodeAt list i) 2 (λ z. omega arith), ne-eqb (opcodeAt list i) 3 (λ z. omega arith)) refl
+  late-label big b k = let l = pre .integer in rw (ne-eqb (opcodeAt list i) 2 (λ z. omega arith), ne-eqb (opcodeAt list i) 3 (λ z. omega arith)) refl
 
   module _ (big : Bool) (a : ℕ) (wa : WordOf big labels (varnodeAt list i 1) a) where
+    label0 : (k : ℕ) → digit 256 a k ≡ labelOf big labels (varnodeAt list i 1) k
+    label0 = word-label big labels (varnodeAt list i 1) a wa
+
     module _ (e : opcodeAt list i ≡ 10) (b : ℕ) (wb : WordOf big labels (varnodeAt list i 2) b) where
       pub piece-fits : (varnodeAt list i 2 .size < 8) × (a * 256 ^ varnodeAt list i 2 .size + b < 2 ^ 64)
       piece-fits =
@@ -325,13 +328,13 @@ module _ (labels : Memory) (list : List ℕ) (i : ℕ) (pre : MovesBytes labels 
       unfolding piece labelJoined operationAt
       moved-piece r er o k h =
           ap (λ (x : ℕ). digit 256 x k) er ∙ digit-joined (varnodeAt list i 2 .size) a b (wb .below) k
-          ∙ rw (late-label big o k, e, wb .bytes k, wa .bytes (k - varnodeAt list i 2 .size)) refl
+          ∙ rw (late-label big o k, e, word-label big labels (varnodeAt list i 2) b wb k, label0 (k - varnodeAt list i 2 .size)) refl
 
     pub moved-subpiece : opcodeAt list i ≡ 11 → (r : ℕ) → r ≡ subpiece (varnodeAt list i 0 .size) a (varnodeAt list i 2 .offset) → MovedWord big labels (operationAt list i) r
     unfolding subpiece operationAt
     moved-subpiece e r er o k h =
         ap (λ (x : ℕ). digit 256 x k) er ∙ digit-mod (a / 256 ^ varnodeAt list i 2 .offset) (varnodeAt list i 0 .size) k h ∙ digit-div a (varnodeAt list i 2 .offset) k
-        ∙ wa .bytes (varnodeAt list i 2 .offset + k) ∙ sym (late-label big o k ∙ rw e refl)
+        ∙ label0 (varnodeAt list i 2 .offset + k) ∙ sym (late-label big o k ∙ rw e refl)
 
     pub moved-extended : opcodeAt list i ≡ 20
         → (r : ℕ) → ((k : ℕ) → k < 8 → digit 256 r k ≡ cond (ltb k (varnodeAt list i 1 .size)) (digit 256 a k) (digit 256 a (varnodeAt list i 1 .size - 1)))
@@ -341,9 +344,9 @@ module _ (labels : Memory) (list : List ℕ) (i : ℕ) (pre : MovesBytes labels 
         let most = place-moved 0 (omega arith) .size in
         let size0 : ℕ = varnodeAt list i 1 .size in
         let told : cond (ltb k size0) (digit 256 a k) (digit 256 a (size0 - 1)) ≡ labelOf big labels (varnodeAt list i 1) (cond (ltb k size0) k (size0 - 1)) =
-        rw (wa .bytes k, wa .bytes (size0 - 1)) (sym (label-either big labels (varnodeAt list i 1) (ltb k size0) k (size0 - 1))) in
+        rw (label0 k, label0 (size0 - 1)) (sym (label-either big labels (varnodeAt list i 1) (ltb k size0) k (size0 - 1))) in
         er k (omega arith) ∙ told ∙ sym (late-label big o k ∙ rw e refl)
 
     pub moved-whole : (opcodeAt list i ≡ 10 → ⊥) → (opcodeAt list i ≡ 11 → ⊥) → (opcodeAt list i ≡ 20 → ⊥) → MovedWord big labels (operationAt list i) a
     moved-whole n10 n11 n20 o k h =
-        wa .bytes k ∙ sym (late-label big o k ∙ rw (ne-eqb (opcodeAt list i) 10 n10, ne-eqb (opcodeAt list i) 11 n11, ne-eqb (opcodeAt list i) 20 n20) refl)
+        label0 k ∙ sym (late-label big o k ∙ rw (ne-eqb (opcodeAt list i) 10 n10, ne-eqb (opcodeAt list i) 11 n11, ne-eqb (opcodeAt list i) 20 n20) refl)

@@ -38,14 +38,15 @@ sourceOf op offset = cond (eqb (op .opcode) 2) (pointee op offset (op .output .s
 pub record MovesBytes (labels : Memory) (list : List ℕ) (i : ℕ) : Type 0 where
   pub valid : Valid (lengthsOf labels) list
   pub index : i < operationCount list
-  pub late : firstInteger ≤ opcodeAt list i
-  pub member : member (opcodeAt list i) moving ≡ true
+  pub integer : firstInteger ≤ opcodeAt list i
+  pub moves : member (opcodeAt list i) moving ≡ true
 
--- A number whose bytes, from the least significant on, are the labels of a varnode by significance.
+-- A number whose bytes, from the least significant on, are the labels of a varnode by significance; it has no more.
 pub record WordOf (big : Bool) (labels : Memory) (v : Varnode) (word : ℕ) : Type 0 where
-  pub bytes : (k : ℕ) → digit 256 word k ≡ labelOf big labels v k
+  pub bytes : (k : ℕ) → k < v .size → digit 256 word k ≡ labelOf big labels v k
   pub below : word < 256 ^ v .size
 
--- A number whose bytes are the labels that such an operation writes, by significance. None of the four looks at b.
+-- A number whose bytes, from the least significant on, are the labels that PIECE, SUBPIECE, INT_ZEXT or INT_SEXT writes by significance; what it
+-- has above them is free. None of the four looks at b.
 abbrev pub MovedWord : (big : Bool) (labels : Memory) (op : Operation) (word : ℕ) → Type 0
 MovedWord big labels op word = (b k : ℕ) → k < op .output .size → digit 256 word k ≡ labelMoved big labels op b k

@@ -6,7 +6,7 @@ ghost use lib.Dec.{ltb};
 ghost use lib.ListN.{length};
 ghost use Rattle.word.specs.Sum.{digit};
 ghost use Rattle.arithmetic.specs.Opcodes.{firstInteger, member};
-ghost use Rattle.operation.specs.Layout.{wordsPerOperation, operationCount, absent, opcodeAt};
+ghost use Rattle.operation.specs.Layout.{wordsPerOperation, operationCount, opcodeAt};
 ghost use Rattle.machine.specs.Memory.{Memory, spaces, lengthsOf};
 ghost use Rattle.machine.specs.Effect.{operationAt, pointee};
 ghost use Rattle.machine.specs.Conditions.{hasSecret, leaks, destinationBytes, moving};
@@ -96,9 +96,9 @@ pub fn target_at(list: &[u64], i: usize, offset: u64) -> Varnode
     varnode_at(list, i, 0)
 }
 
-// The labels that operation i writes to its target, as the number that they make in little order. COPY, LOAD and STORE keep bytes in their
-// places, in either order; PIECE, SUBPIECE, INT_ZEXT and INT_SEXT move them by significance; of any other operation all bytes become secret if a
-// byte of an input is.
+// The labels that operation i writes to its target, as the number that they make in little order. COPY, LOAD and STORE, which are all that write
+// below the integer operations, keep bytes in their places, in either order; PIECE, SUBPIECE, INT_ZEXT and INT_SEXT move them by significance; of any
+// other operation all bytes become secret if a byte of an input is.
 pub fn labels_written<'a>(
     big: bool,
     list: &[u64],

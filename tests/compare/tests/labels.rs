@@ -46,6 +46,10 @@ const WINDOW_USE_QUOTA: u64 = 100;
 /// The lengths of the spaces for single operations.
 const LENGTHS: Lengths = Lengths { unique: 40, register: 42, ram: 44 };
 
+/// How many low bytes SUBPIECE drops: a few, and so many that as many bits would be 0 or few if they wrapped at
+/// 2^32 or 2^64.
+const DROPPED: [u64; 13] = [0, 1, 2, 3, 4, 5, 6, 7, 8, 9, 1 << 32, 1 << 61, u64::MAX];
+
 /// An operation that moves bytes.
 #[derive(Clone, Copy, Debug)]
 struct Move {
@@ -67,7 +71,7 @@ impl Move {
         let (source, significance) = match (self.opcode, self.low_half) {
             (_, Some(low_half)) if significance < low_half.size => (low_half, significance),
             (_, Some(low_half)) => (self.source, significance - low_half.size),
-            (Opcode::Subpiece, _) => (self.source, significance + self.dropped),
+            (Opcode::Subpiece, _) => (self.source, significance.saturating_add(self.dropped)),
             (Opcode::IntSext, _) => (self.source, significance.min(self.source.size - 1)),
             _ => (self.source, significance),
         };
@@ -99,7 +103,7 @@ impl Move {
         let varnodes = match self.opcode {
             Opcode::Load => [target, space_of(self.source), pointer_to(self.source), None],
             Opcode::Store => [None, space_of(self.target), pointer_to(self.target), source],
-            Opcode::Subpiece => [target, source, constant(self.dropped, 1), None],
+            Opcode::Subpiece => [target, source, constant(self.dropped, 8), None],
             _ => [target, source, self.low_half, None],
         };
         Entry::new(self.opcode as u8, varnodes)
@@ -205,16 +209,16 @@ fn go_together(opcode: Opcode, source: u64, low_half: u64, target: u64) -> bool 
     }
 }
 
-/// Each move in both byte orders, of all sizes that go together, SUBPIECE with 0 to 9 bytes dropped. Source,
-/// low half and target are in these spaces.
+/// Each move in both byte orders, of all sizes that go together, SUBPIECE with each of `DROPPED`. Source, low
+/// half and target are in these spaces.
 fn all_moves(spaces: [u64; 3]) -> Vec<Move> {
     let at = |place: usize, offset, size| Varnode { space: spaces[place], offset, size };
     let mut moves = vec![];
     for (&opcode, &order) in product(&MOVES, &GOOD_ORDERS) {
         for (source, low_half, target) in triples() {
-            let most_dropped = if opcode == Opcode::Subpiece { 9 } else { 0 };
+            let dropped = if opcode == Opcode::Subpiece { &DROPPED[..] } else { &[0] };
             let is_move = go_together(opcode, source, low_half, target);
-            moves.extend((0..=most_dropped).filter(|_| is_move).map(|dropped| Move {
+            moves.extend(dropped.iter().filter(|_| is_move).map(|&dropped| Move {
                 opcode,
                 order,
                 source: at(0, 16, source),
@@ -224,8 +228,8 @@ fn all_moves(spaces: [u64; 3]) -> Vec<Move> {
             }));
         }
     }
-    // PIECE and each extension have 28 pairs of sizes, SUBPIECE 64 with ten numbers.
-    assert_eq!(moves.len(), 2 * (3 * 8 + 3 * 28 + 640));
+    // PIECE and each extension have 28 pairs of sizes, SUBPIECE 64.
+    assert_eq!(moves.len(), 2 * (3 * 8 + 3 * 28 + 64 * DROPPED.len()));
     moves
 }
 
