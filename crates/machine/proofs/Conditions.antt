@@ -702,7 +702,7 @@ module _ (opcode : ℕ) (v : Varnode) where
   is-constant p e = eqb-true (v .space) 1 (not-false (eqb (v .space) 1) (rw e at p))
 
 -- rules 22 and 25, of INT_SEXT
-pub extends : (opcode : ℕ) → opcode ≡ 20 → hasPlace opcode 1 ≡ true
+extends : (opcode : ℕ) → opcode ≡ 20 → hasPlace opcode 1 ≡ true
 unfolding hasPlace outputs inputs rowOf opcodes
 extends opcode e = rw e refl
 
