@@ -63,7 +63,7 @@ unfolding allLabels
 all-flags zero t = refl
 all-flags (suc n) t = rw (flag-label t, all-flags n t)
 
-all-at : (ls : List ℕ) → allLabels ls ≡ true → (i : ℕ) → leb (getD ls i 0) 1 ≡ true
+pub all-at : (ls : List ℕ) → allLabels ls ≡ true → (i : ℕ) → leb (getD ls i 0) 1 ≡ true
 unfolding allLabels
 all-at [] h i = refl
 all-at (l ∷ ls) h zero = both (leb l 1) (allLabels ls) h .0
@@ -80,7 +80,7 @@ all-append [] ks h e = e
 all-append (l ∷ ls) ks h e = let b = both (leb l 1) (allLabels ls) h in rw (b .0, all-append ls ks (b .1) e)
 
 module _ (labels : Memory) (h : labelsInRange labels ≡ true) where
-  all-space : (space : ℕ) → allLabels (spaceOf labels space) ≡ true
+  pub all-space : (space : ℕ) → allLabels (spaceOf labels space) ≡ true
   unfolding labelsInRange spaceOf allLabels
   all-space space =
       let b = both (allLabels (labels .unique) && allLabels (labels .register)) (allLabels (labels .ram)) h in

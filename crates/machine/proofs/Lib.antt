@@ -14,10 +14,13 @@ pub mod Runs
 pub mod Resume
 pub mod Order
 pub mod Limits
+pub mod MovedCounts
+pub mod CountedRuns
 pub mod Marked
 pub mod ByteOrder
 pub mod Labels
 pub mod Conditions
+pub mod Recounts
 pub mod Divisions
 pub mod FinerLabels
 pub mod Wordsizes

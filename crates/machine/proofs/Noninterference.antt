@@ -26,7 +26,7 @@ use Rattle.machine.proofs.Plain.{SameRun, run-same}
 view-of : {labels m n : Memory} → Spaces Public labels m n → LowEquivalent labels m n
 view-of r = record { lengths = spaces-lengths r; bytes = λ space i k. each-at (λ e. refl) (spaces-space r space) i }
 
-same-lengths : (x y : Lengths) → sameLengths x y ≡ true → (x .unique ≡ y .unique) × (x .register ≡ y .register) × (x .ram ≡ y .ram)
+pub same-lengths : (x y : Lengths) → sameLengths x y ≡ true → (x .unique ≡ y .unique) × (x .register ≡ y .register) × (x .ram ≡ y .ram)
 unfolding sameLengths
 same-lengths x y t =
     let e = both (eqb (x .unique) (y .unique) && eqb (x .register) (y .register)) (eqb (x .ram) (y .ram)) t in

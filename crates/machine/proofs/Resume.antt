@@ -44,7 +44,7 @@ outcome-summed log r q = record {
   log = log-summed (r .position .log) (q .position .log) log;
 }
 
-room-left : (log : List ℕ) (at : Position) → at .room + length (at .log) ≡ length log
+pub room-left : (log : List ℕ) (at : Position) → at .room + length (at .log) ≡ length log
     → starting (at .index) (length (drop (length (at .log)) (logAfter (at .log) log))) ≡ fresh at
 unfolding starting fresh logAfter
 room-left log at e =

@@ -47,8 +47,8 @@ allLabels (l ∷ ls) = leb l 1 && allLabels ls
 unfoldable pub labelsInRange : Memory → Bool
 labelsInRange labels = allLabels (labels .unique) && allLabels (labels .register) && allLabels (labels .ram)
 
--- The refusals in their order, 10, 11, 12, 21 to 26, 27, as a report; its ending is 0 where nothing is refused. `fitting` and `valid`
--- say that no label calls for 11 or for 12.
+-- The refusals in their order, 10, 11, 12, 21 to 26, 27, as a report; its ending is 0 where nothing is refused. `fitting` says
+-- that no labels and no other lent buffer call for 11, `valid` that no label calls for 12.
 unfoldable pub refusal : Settings → Lengths → (list : List ℕ) → (start : ℕ) → (fitting valid : Bool) → Report
 refusal settings lengths list start fitting valid =
     cond (not (settingsInRange settings)) (refusalReport 10 0)
@@ -102,10 +102,6 @@ unfoldable pub plainRun : Settings → (list : List ℕ) → (start budget : ℕ
 plainRun settings list start budget log m =
     called settings list start budget log unlabelled m (refusal settings (lengthsOf m) list start true true)
 
--- The step is a run with budget 1.
-abbrev pub labelledStep : Settings → (list : List ℕ) → (start : ℕ) → (log : List ℕ) → (labels memory : Memory) → Outcome
-labelledStep settings list start log labels m = labelledRun settings list start 1 log labels m
-
--- The plain step.
+-- The plain step is a run with budget 1.
 abbrev pub plainStep : Settings → (list : List ℕ) → (start : ℕ) → (log : List ℕ) → (memory : Memory) → Outcome
 plainStep settings list start log m = plainRun settings list start 1 log m

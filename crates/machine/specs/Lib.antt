@@ -4,8 +4,11 @@ pub mod ByteOrder
 pub mod Effect
 pub mod Run
 pub mod Calls
+pub mod Counts
+pub mod MovedCounts
 pub mod Noninterference
 pub mod Resume
+pub mod Recounts
 pub mod Order
 pub mod Limits
 pub mod Marked

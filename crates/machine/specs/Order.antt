@@ -11,7 +11,7 @@ use Rattle.validation.specs.declared.Malformed.{Malformed}
 use Rattle.validation.specs.Verdict.{settingsInRange, lengthsInRange, malformed, refusalReport}
 use Rattle.machine.specs.Calls.{refusal}
 
--- `fitting` and `valid` say that no label calls for 11 or for 12; `found` is the first malformed operation.
+-- `fitting` says that no labels and no other lent buffer call for 11, `valid` that no label calls for 12; `found` is the first malformed operation.
 pub record InOrder (settings : Settings) (lengths : Lengths) (list : List ℕ) (start : ℕ) (fitting valid : Bool) (found : Malformed) : Type 0 where
   pub settingRefused : settingsInRange settings ≡ false → refusal settings lengths list start fitting valid ≡ refusalReport 10 0
   pub lengthRefused : settingsInRange settings ≡ true → (lengthsInRange lengths list && fitting) ≡ false

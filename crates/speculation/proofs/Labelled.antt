@@ -23,7 +23,7 @@ use Rattle.speculation.proofs.Accepted.{ahead-refusal}
 use Rattle.speculation.proofs.Below.{Below, none, more, run-below, labelled-below}
 use Rattle.speculation.proofs.NoWindow.{no-window}
 use Rattle.speculation.proofs.Aside.{Aside, At, placed, Equal, speculate-equal}
-use Rattle.speculation.proofs.Windows.{Short, full, leaked}
+use Rattle.speculation.proofs.Windows.{Short, not-short}
 
 -- ---- the unmarked words
 
@@ -115,7 +115,3 @@ against-labelled = record {
   below = labelled-below;
   noWindow = no-window;
 }
-  where
-    not-short : {e : ℕ} → (e ≡ 34 → ⊥) → (e ≡ 35 → ⊥) → Short e → ⊥
-    not-short n34 n35 full = n34 refl
-    not-short n34 n35 leaked = n35 refl

@@ -10,5 +10,6 @@ pub mod Aside
 pub mod Labelled
 pub mod Limits
 pub mod Resume
+pub mod Recounts
 pub mod Conditions
 pub mod Pinned

@@ -40,7 +40,7 @@ module _ (settings : Settings) (list : List ℕ) (start b c window : ℕ) (log j
   left = drop (length (runs b .position .log)) (logAfter (runs b .position .log) log)
 
   -- the second call is not refused
-  resumed-call : runs b .ending ≡ 2
+  pub resumed-call : runs b .ending ≡ 2
       → SummedAhead (record { outcome = outcomeOf log (runs b); journal = journalAfter window journal })
       (calledAhead settings list (runs b .position .index) c window left (journalAfter window journal) (runs b .labels) (runs b .memory) (refusalReport 0 0))
       (record { outcome = outcomeOf log (runs (b + c)); journal = journalAfter window journal })

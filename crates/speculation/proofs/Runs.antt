@@ -146,12 +146,12 @@ module _ (c : ℕ) (words : List ℕ) where
   unfolding withWords later
   words-later w at = rw append-assoc
 
-  later-reached : {a b : Stepped} → Later c words a b → reached a ≡ later c words (reached b)
+  pub later-reached : {a b : Stepped} → Later c words a b → reached a ≡ later c words (reached b)
   unfolding reached laterEnded ended
   later-reached Later.halts = refl
   later-reached Later.goes = refl
 
-  later-passed : {a b : Stepped} → Later c words a b → passed a ≡ passed b
+  pub later-passed : {a b : Stepped} → Later c words a b → passed a ≡ passed b
   unfolding passed laterEnded ended
   later-passed Later.halts = refl
   later-passed Later.goes = refl

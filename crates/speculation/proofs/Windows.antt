@@ -21,6 +21,10 @@ pub data Short : ℕ → Type 0 where
   full : Short 34
   leaked : Short 35
 
+pub not-short : {e : ℕ} → (e ≡ 34 → ⊥) → (e ≡ 35 → ⊥) → Short e → ⊥
+not-short n34 n35 full = n34 refl
+not-short n34 n35 leaked = n35 refl
+
 -- The words of a window take up room that was left, and are at most W.
 pub record Worded (window free : ℕ) (w : Ended) : Type 0 where
   pub room : w .position .room + length (w .position .log) ≡ free

@@ -1,9 +1,11 @@
 pub mod Window
 pub mod Speculation
+pub mod Counts
 pub mod Noninterference
 pub mod Divisions
 pub mod Labelled
 pub mod Limits
 pub mod Resume
+pub mod Recounts
 pub mod Conditions
 pub mod Pinned

@@ -17,7 +17,7 @@ use Rattle.speculation.specs.Speculation.{speculate, speculativeRefusal,
 
 -- ---- refusals
 
--- Each at its place: `fitting` and `valid` say that no label calls for 11 or for 12, `words` are those of the journal.
+-- Each at its place: `fitting` says that no labels and no other lent buffer call for 11, `valid` that no label calls for 12, `words` are those of the journal.
 pub record AtTheirPlace (settings : Settings) (lengths : Lengths) (list : List ℕ) (start window words : ℕ) (fitting valid : Bool) : Type 0 where
   -- 10 for W over 64, whatever else is wrong.
   pub windowRefused : 64 < window → speculativeRefusal settings lengths list start window words fitting valid ≡ refusalReport 10 0

@@ -31,7 +31,7 @@ unfoldable pub journalWords : (window : ℕ) → ℕ
 journalWords window = 4 * window
 
 -- 10 for W over 64; 11 for a journal under 4W words; the others as for the labelled run, each at its place. `words` are those of the
--- journal; `fitting` and `valid` say that no label calls for 11 or for 12.
+-- journal; `fitting` says that no labels and no other lent buffer call for 11, `valid` that no label calls for 12.
 unfoldable pub speculativeRefusal : Settings → Lengths → (list : List ℕ) → (start window words : ℕ) → (fitting valid : Bool) → Report
 speculativeRefusal settings lengths list start window words fitting valid =
     cond (leb window mostAhead) (refusal settings lengths list start (leb (journalWords window) words && fitting) valid) (refusalReport 10 0)

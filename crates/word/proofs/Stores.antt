@@ -9,7 +9,7 @@ use lib.Seq.{sets, sets-eq, length-sets, length-take-le, getD-take, getD-drop}
 use Rattle.word.specs.Sum.{tabulate}
 use Rattle.word.proofs.Sums.{tabulate-length, tabulate-is}
 
-sets-snoc : (l : List ℕ) (at : ℕ) (vs : List ℕ) (v : ℕ) → set (sets l at vs) (at + length vs) v ≡ sets l at (vs ++ (v ∷ []))
+pub sets-snoc : (l : List ℕ) (at : ℕ) (vs : List ℕ) (v : ℕ) → set (sets l at vs) (at + length vs) v ≡ sets l at (vs ++ (v ∷ []))
 sets-snoc l at [] v = let e : at + 0 ≡ at = omega arith in rw e
 sets-snoc l at (w ∷ vs) v = let e : at + suc (length vs) ≡ suc at + length vs = omega arith in rw e (sets-snoc (set l at w) (suc at) vs v)
 

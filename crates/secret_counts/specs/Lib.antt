@@ -1,0 +1,4 @@
+pub mod Recount
+pub mod Changes
+pub mod Moved
+pub mod Laws
