@@ -1,5 +1,5 @@
 -- The limits of a case, and the rooms that follow from them.
-use Prim.Native.Nat.{ℕ, _+_, _*_}
+use Prim.Native.Nat.{ℕ, _+_, _*_, _/_}
 use Rattle.operation.specs.Layout.{wordsPerOperation}
 use Rattle.case_frame.specs.Frames.{longestFrame}
 
@@ -22,6 +22,10 @@ startIndex = 0
 -- Room for the bytes of the three spaces, or for their labels.
 abbrev pub spacesRoom : ℕ
 spacesRoom = 3 * mostCaseBytes
+
+-- Room for the counts of secret bytes of a space: a word for each 64 bytes, and the total.
+abbrev pub countsRoom : ℕ
+countsRoom = mostCaseBytes / 64 + 1
 
 -- Room for the words of the operations.
 abbrev pub wordsRoom : ℕ

@@ -1,17 +1,44 @@
 -- The labelled run of a case: what is asked of its buffers, and what is printed of it.
-use Prim.Native.Nat.{ℕ, _≤_}
-use mathlib.Core.Path.{_≡_, sym, ap, subst, _∙_}
+use Prim.Native.Nat.{ℕ, _+_, _/_, _≤_}
+use mathlib.Core.Bool.{true}
+use mathlib.Core.Path.{_≡_, refl, sym, ap, subst, _∙_}
 use mathlib.Core.List.{List}
 use native.Mathlib.Omega.{arith}
+use borrow.Author.Tests.{le-leb}
+use lib.Dec.{leb}
 use lib.ListN.{length, replicate, length-replicate}
+use Rattle.secret_counts.specs.Recount.{blocks, countWords}
 use Rattle.operation.specs.declared.layout.Settings.{Settings}
 use Rattle.operation.specs.declared.report.Report.{Report}
-use Rattle.machine.specs.Memory.{Memory}
+use Rattle.machine.specs.Memory.{Memory, spaces, lengthsOf}
 use Rattle.machine.specs.Calls.{Outcome, labelledOutcome, labelledRun}
+use Rattle.machine.specs.Counts.{countsFit, CountedOutcome, countedOutcome, countedRun}
 use Rattle.machine.proofs.Limits.{limits}
+use Rattle.machine.proofs.Recounts.{counts-of-labelled-runs}
 use Rattle.case_printing.specs.Appended.{Appended}
 use Rattle.case_printing.specs.Outcome.{outcomeText}
-use Rattle.case_reader.specs.Limits.{logWords, startIndex}
+use Rattle.case_reader.specs.Limits.{mostCaseBytes, logWords, startIndex, countsRoom}
+use Rattle.case_reader.specs.Buffers.{Fits}
+
+-- counts of zeros that have room for the longest space, of each space
+abbrev pub noCounts : Memory
+noCounts = spaces (replicate countsRoom 0) (replicate countsRoom 0) (replicate countsRoom 0)
+
+enough : (n : ℕ) → n ≤ mostCaseBytes → leb (countWords n) (length (replicate {A = ℕ} countsRoom 0)) ≡ true
+unfolding countWords blocks
+enough n h = rw (length-replicate {A = ℕ} countsRoom 0) (le-leb ((n + 63) / 64 + 1) countsRoom (omega (arith, h)))
+
+counts-enough : (m : Memory) → Fits (lengthsOf m) → countsFit (lengthsOf m) (lengthsOf noCounts) ≡ true
+unfolding countsFit lengthsOf
+counts-enough m f = rw (enough (length (m .unique)) (f .unique), enough (length (m .register)) (f .register), enough (length (m .ram)) (f .ram)) refl
+
+-- with these counts it is the labelled run
+pub as-labelled : (settings : Settings) (list : List ℕ) (budget : ℕ) (labels m : Memory) {report : Report} {m′ labels′ counts′ : Memory} {log′ : List ℕ} → Fits (lengthsOf m)
+    → countedOutcome report m′ labels′ counts′ log′ ≡ countedRun settings list startIndex budget (replicate logWords 0) labels m noCounts
+    → labelledOutcome report m′ labels′ log′ ≡ labelledRun settings list startIndex budget (replicate logWords 0) labels m
+as-labelled settings list budget labels m f e =
+    ap (λ (o : CountedOutcome). o .outcome) e
+    ∙ counts-of-labelled-runs settings list startIndex budget (replicate logWords 0) labels m noCounts .others (counts-enough m f)
 
 -- the log words written have their place in the log
 pub logged-in : (settings : Settings) (list : List ℕ) (budget : ℕ) (labels m : Memory) {report : Report} {m′ labels′ : Memory} {log′ : List ℕ}

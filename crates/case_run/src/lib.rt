@@ -9,6 +9,7 @@ ghost use Rattle.case_reader.specs.Limits.{logWords, startIndex};
 ghost use Rattle.case_reader.specs.Buffers.{Fits};
 ghost use Rattle.case_printing.specs.Room.{outputRoom};
 use case_printing::outcome::put_outcome;
+use case_reader::limits::COUNTS_ROOM;
 use case_reader::limits::LOG_WORDS;
 use case_reader::limits::START_INDEX;
 use interpreter::labelled_run;
@@ -35,6 +36,9 @@ pub fn print_run(
         (spaces (now (unique .entry)) (now (register .entry)) (now (ram .entry))))) r (now (out .exit)) ⌝ }
 {
     let mut log = [0u64; LOG_WORDS];
+    let mut unique_counts = [0u64; COUNTS_ROOM];
+    let mut register_counts = [0u64; COUNTS_ROOM];
+    let mut ram_counts = [0u64; COUNTS_ROOM];
     let report = labelled_run(
         settings,
         list,
@@ -46,6 +50,9 @@ pub fn print_run(
         unique_labels,
         register_labels,
         ram_labels,
+        &mut unique_counts,
+        &mut register_counts,
+        &mut ram_counts,
         &mut log,
     );
     put_outcome(

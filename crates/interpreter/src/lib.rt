@@ -3,7 +3,7 @@
 ghost use mathlib.Core.Path.{_≡_};
 ghost use Rattle.validation.specs.Verdict.{verdict};
 ghost use Rattle.machine.specs.Memory.{spaces};
-ghost use Rattle.runs.specs.Promises.{RunPromise, LabelledRunPromise, SpeculativeRunPromise};
+ghost use Rattle.runs.specs.Promises.{RunPromise, LabelledRunPromise, SpeculativeRunPromise, CountingPromise};
 ghost use Rattle.show.specs.Show.{view, shown};
 use operation::layout::Lengths;
 use operation::layout::Settings;
@@ -51,7 +51,7 @@ pub fn step(
     runs::run(settings, list, start, 1, unique, register, ram, log)
 }
 
-// A run with a label for each byte of each space, 0 public or 1 secret: the papers' labelled run.
+// A run with a label for each byte of each space, 0 public or 1 secret, and counts of the secret bytes: the papers' labelled run.
 pub fn labelled_run(
     settings: Settings,
     list: &[u64],
@@ -63,13 +63,18 @@ pub fn labelled_run(
     unique_labels: &mut [u8],
     register_labels: &mut [u8],
     ram_labels: &mut [u8],
+    unique_counts: &mut [u64],
+    register_counts: &mut [u64],
+    ram_counts: &mut [u64],
     log: &mut [u64],
 ) -> Report
     ensures { λ r. ⌜ LabelledRunPromise settings (now (list .entry)) start budget
         (spaces (now (unique .entry)) (now (register .entry)) (now (ram .entry)))
-        (spaces (now («unique_labels» .entry)) (now («register_labels» .entry)) (now («ram_labels» .entry))) (now (log .entry))
+        (spaces (now («unique_labels» .entry)) (now («register_labels» .entry)) (now («ram_labels» .entry)))
+        (spaces (now («unique_counts» .entry)) (now («register_counts» .entry)) (now («ram_counts» .entry))) (now (log .entry))
         (spaces (now (unique .exit)) (now (register .exit)) (now (ram .exit)))
-        (spaces (now («unique_labels» .exit)) (now («register_labels» .exit)) (now («ram_labels» .exit))) (now (log .exit)) r ⌝ }
+        (spaces (now («unique_labels» .exit)) (now («register_labels» .exit)) (now («ram_labels» .exit)))
+        (spaces (now («unique_counts» .exit)) (now («register_counts» .exit)) (now («ram_counts» .exit))) (now (log .exit)) r ⌝ }
 {
     runs::labelled_run(
         settings,
@@ -82,6 +87,9 @@ pub fn labelled_run(
         unique_labels,
         register_labels,
         ram_labels,
+        unique_counts,
+        register_counts,
+        ram_counts,
         log,
     )
 }
@@ -97,13 +105,18 @@ pub fn labelled_step(
     unique_labels: &mut [u8],
     register_labels: &mut [u8],
     ram_labels: &mut [u8],
+    unique_counts: &mut [u64],
+    register_counts: &mut [u64],
+    ram_counts: &mut [u64],
     log: &mut [u64],
 ) -> Report
     ensures { λ r. ⌜ LabelledRunPromise settings (now (list .entry)) start 1
         (spaces (now (unique .entry)) (now (register .entry)) (now (ram .entry)))
-        (spaces (now («unique_labels» .entry)) (now («register_labels» .entry)) (now («ram_labels» .entry))) (now (log .entry))
+        (spaces (now («unique_labels» .entry)) (now («register_labels» .entry)) (now («ram_labels» .entry)))
+        (spaces (now («unique_counts» .entry)) (now («register_counts» .entry)) (now («ram_counts» .entry))) (now (log .entry))
         (spaces (now (unique .exit)) (now (register .exit)) (now (ram .exit)))
-        (spaces (now («unique_labels» .exit)) (now («register_labels» .exit)) (now («ram_labels» .exit))) (now (log .exit)) r ⌝ }
+        (spaces (now («unique_labels» .exit)) (now («register_labels» .exit)) (now («ram_labels» .exit)))
+        (spaces (now («unique_counts» .exit)) (now («register_counts» .exit)) (now («ram_counts» .exit))) (now (log .exit)) r ⌝ }
 {
     runs::labelled_run(
         settings,
@@ -116,6 +129,9 @@ pub fn labelled_step(
         unique_labels,
         register_labels,
         ram_labels,
+        unique_counts,
+        register_counts,
+        ram_counts,
         log,
     )
 }
@@ -133,14 +149,19 @@ pub fn speculative_run(
     unique_labels: &mut [u8],
     register_labels: &mut [u8],
     ram_labels: &mut [u8],
+    unique_counts: &mut [u64],
+    register_counts: &mut [u64],
+    ram_counts: &mut [u64],
     log: &mut [u64],
     journal: &mut [u64],
 ) -> Report
     ensures { λ r. ⌜ SpeculativeRunPromise settings (now (list .entry)) start budget window
         (spaces (now (unique .entry)) (now (register .entry)) (now (ram .entry)))
-        (spaces (now («unique_labels» .entry)) (now («register_labels» .entry)) (now («ram_labels» .entry))) (now (log .entry)) (now (journal .entry))
+        (spaces (now («unique_labels» .entry)) (now («register_labels» .entry)) (now («ram_labels» .entry)))
+        (spaces (now («unique_counts» .entry)) (now («register_counts» .entry)) (now («ram_counts» .entry))) (now (log .entry)) (now (journal .entry))
         (spaces (now (unique .exit)) (now (register .exit)) (now (ram .exit)))
-        (spaces (now («unique_labels» .exit)) (now («register_labels» .exit)) (now («ram_labels» .exit))) (now (log .exit)) (now (journal .exit)) r ⌝ }
+        (spaces (now («unique_labels» .exit)) (now («register_labels» .exit)) (now («ram_labels» .exit)))
+        (spaces (now («unique_counts» .exit)) (now («register_counts» .exit)) (now («ram_counts» .exit))) (now (log .exit)) (now (journal .exit)) r ⌝ }
 {
     runs::speculative_run(
         settings,
@@ -154,8 +175,34 @@ pub fn speculative_run(
         unique_labels,
         register_labels,
         ram_labels,
+        unique_counts,
+        register_counts,
+        ram_counts,
         log,
         journal,
+    )
+}
+
+// Fills the counts of secret bytes from the labels: one for each block of 64 bytes of a space, then the total.
+pub fn count_secrets(
+    unique_labels: &[u8],
+    register_labels: &[u8],
+    ram_labels: &[u8],
+    unique_counts: &mut [u64],
+    register_counts: &mut [u64],
+    ram_counts: &mut [u64],
+) -> Report
+    ensures { λ r. ⌜ CountingPromise (spaces (now («unique_labels» .entry)) (now («register_labels» .entry)) (now («ram_labels» .entry)))
+        (spaces (now («unique_counts» .entry)) (now («register_counts» .entry)) (now («ram_counts» .entry)))
+        (spaces (now («unique_counts» .exit)) (now («register_counts» .exit)) (now («ram_counts» .exit))) r ⌝ }
+{
+    runs::count_secrets(
+        unique_labels,
+        register_labels,
+        ram_labels,
+        unique_counts,
+        register_counts,
+        ram_counts,
     )
 }
 

@@ -3,22 +3,26 @@ use Prim.Native.Nat.{ℕ, zero, suc, _+_, _*_, _-_, _/_, _%_, _≤_, _<_}
 use native.Mathlib.Omega.{arith}
 use mathlib.Core.Path.{_≡_, refl, sym, ap, _∙_}
 use mathlib.Core.Bool.{Bool, true, false, cond}
-use mathlib.Core.List.{List, _++_, append-assoc}
+use mathlib.Core.List.{List}
 use borrow.Author.Tests.{ne-eqb, leb-true, leb-false, ltb-true, ltb-false}
 use lib.Dec.{eqb, leb, ltb}
-use lib.ListN.{length, getD, take, drop, take-append-drop}
-use lib.Seq.{sets, sets-eq, length-sets, drop-drop}
+use lib.ListN.{length, getD}
+use lib.Seq.{sets, length-sets}
 use Rattle.word.specs.Word.{part, valueOf, bytesOf}
 use Rattle.word.proofs.Laws.{part-length, part-at, part-bytes, stored-before, stored-at, stored-after, written-read}
 use Rattle.word.proofs.Sums.{tabulate-is}
-use Rattle.word.proofs.Stores.{entries}
+use Rattle.secret_counts.specs.Moved.{lowBit}
 use Rattle.operation.specs.declared.layout.Varnode.{Varnode}
 use Rattle.operation.specs.Layout.{describedBy}
 use Rattle.machine.specs.Memory.{Memory, OfBytes, lengthsOf, spaceOf, withSpace, bytesAt, written}
 use Rattle.machine.proofs.Conditions.{each-space}
+use Rattle.machine.specs.Counts.{countsFit}
+use Rattle.machine.specs.MovedCounts.{MovedSpaces}
 use Rattle.machine.proofs.Kept.{written-lengths}
+use Rattle.machine.proofs.MovedCounts.{moved-spaces-none, moved-spaces-on, moved-spaces-lengths}
 use Rattle.run_memory.specs.Placed.{Placed}
-use Rattle.run_memory.proofs.Spaces.{written-elsewhere}
+use Rattle.run_memory.specs.Marked.{Marked}
+use Rattle.run_memory.proofs.Spaces.{written-elsewhere, space-kept, written-same}
 use Rattle.run_plan.proofs.Places.{space-length}
 use Rattle.run_journal.specs.declared.Entry.{Entry}
 use Rattle.run_journal.specs.Journal.{numberAt, entryOf, entryWords, wordsOf, entryIn, restored, bytesOfEntry, labelsOfEntry, undone, Undoable}
@@ -100,17 +104,6 @@ stored-back l at vs h = sym (tabulate-is (length l) (λ i. getD l i 0) back leng
             let c : at + length vs ≤ i = ltb-false i (at + length vs) e in
             sym (stored-after (sets l at vs) at old i (rw (part-length l at (length vs)) c) ∙ stored-after l at vs i c)
 
--- storing what is there changes nothing
-stored-same : (l : List ℕ) (at n : ℕ) → at + n ≤ length l → sets l at (part l at n) ≡ l
-unfolding part
-stored-same l at n h =
-    let parts : sets l at (part l at n) ≡ take at l ++ part l at n ++ drop (at + length (part l at n)) l =
-    sets-eq (part l at n) l at (rw (part-length l at n) h) in
-    let middle : part l at n ≡ take n (drop at l) = entries l at n h in
-    let rest : drop (at + length (part l at n)) l ≡ drop n (drop at l) = rw (part-length l at n, drop-drop n at l) refl in
-    let whole : take at l ++ (take n (drop at l) ++ drop n (drop at l)) ≡ l = rw (take-append-drop n (drop at l), take-append-drop at l) refl in
-    rw (parts, rest, middle, append-assoc (take at l) (take n (drop at l)) (drop n (drop at l))) whole
-
 -- one space of three
 space-of-written : (n : ℕ) → 2 ≤ n → n ≤ 4 → (m : Memory) (x : List ℕ) → spaceOf (withSpace m n x) n ≡ x
 unfolding spaceOf withSpace
@@ -119,10 +112,6 @@ space-of-written = each-space (λ n. (m : Memory) (x : List ℕ) → spaceOf (wi
 space-again : (n : ℕ) → 2 ≤ n → n ≤ 4 → (m : Memory) (x y : List ℕ) → withSpace (withSpace m n x) n y ≡ withSpace m n y
 unfolding withSpace
 space-again = each-space (λ n. (m : Memory) (x y : List ℕ) → withSpace (withSpace m n x) n y ≡ withSpace m n y) (λ m x y. refl) (λ m x y. refl) (λ m x y. refl)
-
-space-kept : (n : ℕ) → 2 ≤ n → n ≤ 4 → (m : Memory) → withSpace m n (spaceOf m n) ≡ m
-unfolding spaceOf withSpace
-space-kept = each-space (λ n. (m : Memory) → withSpace m n (spaceOf m n) ≡ m) (λ m. refl) (λ m. refl) (λ m. refl)
 
 module _ (m : Memory) (v : Varnode) (p : Placed m v) (bytes : OfBytes m) (bs : List ℕ) (l : length bs ≡ v .size) where
   -- of a varnode in a space with bytes
@@ -156,17 +145,9 @@ module _ (m : Memory) (v : Varnode) (p : Placed m v) (bytes : OfBytes m) (bs : L
 
 -- and where nothing was written
 pub back-same : (m : Memory) (v : Varnode) → Placed m v → OfBytes m → restored m v (numberAt m v) ≡ m
-unfolding bytesAt written
+unfolding bytesAt
 back-same m v p bytes =
-    ap (λ (n : Memory). restored n v (numberAt m v)) (sym (by (leb 2 (v .space)) refl)) ∙ back m v p bytes (bytesAt m v) (part-length _ (v .offset) (v .size))
-  where
-    by : (t : Bool) → leb 2 (v .space) ≡ t → written m v (bytesAt m v) ≡ m
-    by true t =
-        let h : 2 ≤ v .space = leb-true 2 (v .space) t in
-        rw (stored-same (spaceOf m (v .space)) (v .offset) (v .size) (p .within h)) (space-kept (v .space) h (p .known) m)
-    by false t =
-        let low : v .space < 2 = leb-false 2 (v .space) t in
-        written-elsewhere m v (λ z. omega arith) (λ z. omega arith) (λ z. omega arith) (bytesAt m v)
+    ap (λ (n : Memory). restored n v (numberAt m v)) (sym (written-same m v p)) ∙ back m v p bytes (bytesAt m v) (part-length _ (v .offset) (v .size))
 
 -- ---- the first n entries
 
@@ -183,22 +164,28 @@ placed-with {a} {b} v e p =
     sym (space-length a (v .space)) ∙ rw (← e) (space-length b (v .space)) in
     record { size = p .size; known = p .known; nowhere = p .nowhere; within = λ h. rw (← n) (p .within h) }
 
--- the loop: what is left to undo gives the whole
-pub record Undoing (journal : List ℕ) (n : ℕ) (labels₀ m₀ : Memory) (k : ℕ) (labels m : Memory) : Type 0 where
+-- the loop: what is left to undo gives the whole, and the counts went with the labels
+pub record Undoing (journal : List ℕ) (n : ℕ) (labels₀ m₀ counts₀ : Memory) (k : ℕ) (labels m counts : Memory) : Type 0 where
   pub within : k ≤ n
   pub lengths : lengthsOf m ≡ lengthsOf m₀
   pub labelLengths : lengthsOf labels ≡ lengthsOf labels₀
   pub bytes : undone journal bytesOfEntry k m ≡ undone journal bytesOfEntry n m₀
   pub marks : undone journal labelsOfEntry k labels ≡ undone journal labelsOfEntry n labels₀
+  pub moved : MovedSpaces lowBit labels₀ labels counts₀ counts
 
-pub undoing-none : (journal : List ℕ) (n : ℕ) (labels m : Memory) → Undoing journal n labels m n labels m
-undoing-none journal n labels m = record { within = omega arith; lengths = refl; labelLengths = refl; bytes = refl; marks = refl }
+pub undoing-none : (journal : List ℕ) (n : ℕ) (labels m counts : Memory) → Undoing journal n labels m counts n labels m counts
+undoing-none journal n labels m counts =
+    record { within = omega arith; lengths = refl; labelLengths = refl; bytes = refl; marks = refl; moved = moved-spaces-none labels counts }
 
-module _ {journal : List ℕ} {n : ℕ} {labels₀ m₀ : Memory} {k : ℕ} {labels m : Memory} (h : Undoing journal n labels₀ m₀ k labels m) where
+module _ {journal : List ℕ} {n : ℕ} {labels₀ m₀ counts₀ : Memory} {k : ℕ} {labels m counts : Memory} (h : Undoing journal n labels₀ m₀ counts₀ k labels m counts) where
+  pub count-lengths : lengthsOf counts ≡ lengthsOf counts₀
+  count-lengths = moved-spaces-lengths (h .moved)
+
   -- nothing is left
-  pub undoing-all : k ≤ 0 → (m ≡ undone journal bytesOfEntry n m₀) × (labels ≡ undone journal labelsOfEntry n labels₀)
+  pub undoing-all : k ≤ 0
+      → (m ≡ undone journal bytesOfEntry n m₀) × (labels ≡ undone journal labelsOfEntry n labels₀) × MovedSpaces lowBit labels₀ labels counts₀ counts
   unfolding undone
-  undoing-all z = let e : k ≡ 0 = omega arith in (rw e at (h .bytes), rw e at (h .marks))
+  undoing-all z = let e : k ≡ 0 = omega arith in (rw e at (h .bytes), rw e at (h .marks), h .moved)
 
   module _ (u : Undoable journal n labels₀ m₀) (some : 0 < k) where
     pub entry-fits : entryWords * (k - 1) + entryWords ≤ length journal
@@ -208,18 +195,23 @@ module _ {journal : List ℕ} {n : ℕ} {labels₀ m₀ : Memory} {k : ℕ} {lab
       pub bytes-placed : Placed m (entry .target)
       bytes-placed = let w : k ≤ n = h .within in placed-with _ (h .lengths) (rw e (u .placed (k - 1) (omega arith)))
 
-      pub labels-placed : Placed labels (entry .target)
-      labels-placed = let w : k ≤ n = h .within in placed-with _ (h .labelLengths ∙ u .lengths) (rw e (u .placed (k - 1) (omega arith)))
+      pub labels-placed : countsFit (lengthsOf labels₀) (lengthsOf counts₀) ≡ true
+          → Placed labels (entry .target) × (countsFit (lengthsOf labels) (lengthsOf counts) ≡ true)
+      labels-placed t =
+          let w : k ≤ n = h .within in
+          (placed-with _ (h .labelLengths ∙ u .lengths) (rw e (u .placed (k - 1) (omega arith))), rw (h .labelLengths, count-lengths) t)
 
-      pub undoing-more : (labels′ m′ : Memory) → m′ ≡ restored m (entry .target) (entry .bytes) → labels′ ≡ restored labels (entry .target) (entry .labels)
-          → Undoing journal n labels₀ m₀ (k - 1) labels′ m′
+      pub undoing-more : (labels′ m′ counts′ : Memory) → m′ ≡ restored m (entry .target) (entry .bytes)
+          → Marked labels counts (entry .target) (entry .labels) labels′ counts′ → Undoing journal n labels₀ m₀ counts₀ (k - 1) labels′ m′ counts′
       unfolding undone restored
-      undoing-more labels′ m′ em el =
+      undoing-more labels′ m′ counts′ em marked =
           let s : suc (k - 1) ≡ k = omega arith in
+          let el = marked .stored in
           record {
             within = let w : k ≤ n = h .within in omega arith;
             lengths = rw em (written-lengths m _ _ ∙ h .lengths);
             labelLengths = rw el (written-lengths labels _ _ ∙ h .labelLengths);
             bytes = rw (em, e) (rw (← s) at (h .bytes));
             marks = rw (el, e) (rw (← s) at (h .marks));
+            moved = moved-spaces-on (h .labelLengths) (h .moved) (marked .moved);
           }

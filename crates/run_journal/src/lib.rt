@@ -6,10 +6,13 @@ ghost use Prim.Native.Nat.{_+_, _*_, _≤_, _<_};
 ghost use lib.Dec.{eqb};
 ghost use lib.ListN.{length};
 ghost use lib.Seq.{sets};
+ghost use Rattle.secret_counts.specs.Moved.{lowBit};
 ghost use Rattle.operation.specs.Layout.{operationCount, opcodeAt, absent};
 ghost use Rattle.validation.specs.Verdict.{settingsInRange};
 ghost use Rattle.machine.specs.Program.{programOf};
 ghost use Rattle.machine.specs.Memory.{spaces, lengthsOf};
+ghost use Rattle.machine.specs.Counts.{countsFit};
+ghost use Rattle.machine.specs.MovedCounts.{MovedSpaces};
 ghost use Rattle.machine.specs.Effect.{operationAt};
 ghost use Rattle.machine.specs.Conditions.{operand1, exceedsSpace, destinationBytes};
 ghost use Rattle.speculation.specs.Speculation.{journalAfter};
@@ -24,6 +27,7 @@ use operation::layout::opcode_at;
 use operation::layout::operation_count;
 use operation::layout::varnode_at;
 use operation::rules::length_of;
+use run_memory::labels::mark_back;
 use run_memory::space::lengths_of;
 use run_memory::varnode::value_at;
 use run_plan::offset_in;
@@ -164,14 +168,22 @@ pub fn undo(
     unique_labels: &mut [u8],
     register_labels: &mut [u8],
     ram_labels: &mut [u8],
+    unique_counts: &mut [u64],
+    register_counts: &mut [u64],
+    ram_counts: &mut [u64],
     journal: &[u64],
     n: usize,
 )
-    requires { ⌜ Undoable (now journal) n (spaces (now «unique_labels») (now «register_labels») (now «ram_labels»)) (spaces (now unique) (now register) (now ram)) ⌝ }
+    requires { ⌜ Undoable (now journal) n (spaces (now «unique_labels») (now «register_labels») (now «ram_labels»)) (spaces (now unique) (now register) (now ram))
+        × (countsFit (lengthsOf (spaces (now «unique_labels») (now «register_labels») (now «ram_labels»))) (lengthsOf (spaces (now «unique_counts») (now «register_counts») (now «ram_counts»))) ≡ true) ⌝ }
     ensures { λ _. ⌜ (spaces (now (unique .exit)) (now (register .exit)) (now (ram .exit))
         ≡ undone (now (journal .entry)) bytesOfEntry n (spaces (now (unique .entry)) (now (register .entry)) (now (ram .entry))))
         × (spaces (now («unique_labels» .exit)) (now («register_labels» .exit)) (now («ram_labels» .exit))
-        ≡ undone (now (journal .entry)) labelsOfEntry n (spaces (now («unique_labels» .entry)) (now («register_labels» .entry)) (now («ram_labels» .entry)))) ⌝ }
+        ≡ undone (now (journal .entry)) labelsOfEntry n (spaces (now («unique_labels» .entry)) (now («register_labels» .entry)) (now («ram_labels» .entry))))
+        × MovedSpaces lowBit (spaces (now («unique_labels» .entry)) (now («register_labels» .entry)) (now («ram_labels» .entry)))
+        (spaces (now («unique_labels» .exit)) (now («register_labels» .exit)) (now («ram_labels» .exit)))
+        (spaces (now («unique_counts» .entry)) (now («register_counts» .entry)) (now («ram_counts» .entry)))
+        (spaces (now («unique_counts» .exit)) (now («register_counts» .exit)) (now («ram_counts» .exit))) ⌝ }
 {
     let mut k = n;
     while 0 < k {
@@ -179,10 +191,13 @@ pub fn undo(
         let entry = entry_at(journal, k);
         let target = entry.target;
         restore(unique, register, ram, target, entry.bytes);
-        restore(
+        mark_back(
             unique_labels,
             register_labels,
             ram_labels,
+            unique_counts,
+            register_counts,
+            ram_counts,
             target,
             entry.labels,
         );

@@ -2,7 +2,7 @@
 use Prim.Native.Nat.{ℕ, _+_, _*_, _%_, _^_, _≤_, _<_}
 use native.Mathlib.Nat.{add-comm, add-mul-mod-self-right, mod-eq-of-lt}
 use native.Mathlib.Omega.{arith}
-use mathlib.Core.Path.{_≡_, refl, sym, ap, _∙_}
+use mathlib.Core.Path.{_≡_, refl, sym, ap, subst, _∙_}
 use mathlib.Core.Bool.{Bool, true, false, cond, _&&_, true≢false}
 use mathlib.Core.List.{List, [], _∷_, _++_, append-assoc}
 use borrow.Author.Tests.{leb-false}
@@ -46,6 +46,9 @@ module _ (op : Operation) (b p : ℕ) (ep : p ≡ b) (target : Varnode) (et : ta
 
   pub nowhere-found : destinationBytes op b .space ≡ 0 → target .space ≡ 0
   nowhere-found z = ap (λ (v : Varnode). v .space) target-found ∙ z
+
+  pub placed-found : (labels : Memory) → Placed labels (destinationBytes op b) → Placed labels target
+  placed-found labels h = subst (Placed labels) (sym target-found) h
 
   pub marked : (big : Bool) (labels : Memory) (word : ℕ) (after : Memory) → LabelWord big labels op p word → after ≡ written labels target (bytesOf false (target .size) word)
       → after ≡ labelsAfter big labels op b

@@ -7,6 +7,7 @@ use mathlib.Core.List.{List}
 use borrow.Author.Tests.{ltb-true, ne-eqb}
 use lib.Dec.{eqb, ltb}
 use lib.ListN.{length}
+use Rattle.integer.proofs.Booleans.{both}
 use Rattle.operation.specs.declared.report.Report.{Report}
 use Rattle.operation.specs.Layout.{operationCount}
 use Rattle.machine.specs.Program.{Program, bigEndian}
@@ -150,3 +151,8 @@ module _ (labelled : Bool) (program : Program) (i k most : ℕ) (log : List ℕ)
             by : Turn → Labelled labels₁
             by (unlabelledTurn l) = rw (unchanged (unlabelled-stays l), fit .none l) plain
             by (labelledTurn l d) = of-done l d
+
+-- only a labelled operation is completed
+pub completes-labelled : (labelled completed : Bool) (executed ending : ℕ) → completed ≡ completes labelled executed ending → completed ≡ true → labelled ≡ true
+unfolding completes
+completes-labelled labelled completed executed ending e t = both labelled _ (sym e ∙ t) .0

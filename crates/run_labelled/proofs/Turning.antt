@@ -9,6 +9,7 @@ use borrow.Author.Tests.{eqb-true, eqb-false, lt-ltb, ltb-true, ltb-false}
 use lib.Dec.{eqb, ltb}
 use lib.ListN.{length}
 use Rattle.integer.proofs.Booleans.{both}
+use Rattle.secret_counts.specs.Moved.{lowBit}
 use Rattle.operation.specs.declared.report.Report.{Report}
 use Rattle.operation.specs.Layout.{operationCount}
 use Rattle.validation.specs.Verdict.{settingsInRange}
@@ -16,14 +17,16 @@ use Rattle.machine.specs.Program.{Program}
 use Rattle.machine.specs.Memory.{Memory, lengthsOf}
 use Rattle.machine.specs.Run.{Position, Ended}
 use Rattle.machine.specs.Calls.{Outcome, logAfter, outcomeOf, labelledOutcome}
+use Rattle.machine.specs.MovedCounts.{MovedSpaces}
 use Rattle.machine.proofs.Budget.{later, laterEnded}
+use Rattle.machine.proofs.MovedCounts.{moved-spaces-on, moved-spaces-lengths}
 use Rattle.machine.proofs.Resume.{no-labels}
 use Rattle.machine.proofs.Runs.{Runs}
 use Rattle.run_plan.specs.Valid.{Valid}
 use Rattle.run_plan.proofs.Places.{valid-with}
 use Rattle.run_execution.specs.Loops.{position}
 use Rattle.run_execution.proofs.Running.{Log, ended-at}
-use Rattle.run_labelled.specs.Turns.{Fitting, turnOf}
+use Rattle.run_labelled.specs.Turns.{Fitting, Countable, turnOf}
 use Rattle.run_labelled.proofs.Parts.{part-ended, part-stopped, counted-on, part-kept, part-position, part-log}
 
 -- what is left to do from here is the whole run
@@ -87,6 +90,14 @@ module _ {labelled single : Bool} {program : Program} {R : ℕ → Position → 
     λ t. rw (em, ← g .turn) (turn-one t),
     g .settings,
   )
+
+  -- counts that were long enough still are, and move on with the labels
+  module _ {counts₀ counts : Memory} (moved : MovedSpaces lowBit labels₀ labels counts₀ counts) where
+    pub may-count : Countable labelled labels₀ counts₀ → Countable labelled labels counts
+    may-count c t = rw (g .marks, moved-spaces-lengths moved) (c t)
+
+    pub counts-on : {labels′ counts′ : Memory} → MovedSpaces lowBit labels labels′ counts counts′ → MovedSpaces lowBit labels₀ labels′ counts₀ counts′
+    counts-on more = moved-spaces-on (g .marks) moved more
 
   module _ (most : ℕ) (given : most ≡ turnOf single budget) (done : Report) (m′ labels′ : Memory) (log′ : List ℕ)
       (e : labelledOutcome done m′ labels′ log′ ≡ outcomeOf log (R most (position i k 0 log) labels m)) where

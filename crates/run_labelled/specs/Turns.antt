@@ -10,6 +10,7 @@ use Rattle.operation.specs.Rules.{accesses}
 use Rattle.machine.specs.Memory.{Memory, lengthsOf}
 use Rattle.machine.specs.Effect.{Operation, operationAt}
 use Rattle.machine.specs.Calls.{unlabelled}
+use Rattle.machine.specs.Counts.{countsFit}
 use Rattle.machine.specs.Conditions.{destinationBytes}
 use Rattle.run_memory.specs.Placed.{Placed}
 use Rattle.run_plan.specs.Valid.{Valid}
@@ -19,6 +20,10 @@ use Rattle.run_taint.specs.Taint.{Readable}
 pub record Fitting (labelled : Bool) (labels m : Memory) : Type 0 where
   pub lengths : labelled ≡ true → lengthsOf labels ≡ lengthsOf m
   pub none : labelled ≡ false → labels ≡ unlabelled
+
+-- A labelled run has counts that are long enough.
+abbrev pub Countable : (labelled : Bool) (labels counts : Memory) → Type 0
+Countable labelled labels counts = labelled ≡ true → countsFit (lengthsOf labels) (lengthsOf counts) ≡ true
 
 -- The budget of a turn: one operation of a labelled run, all of a plain one.
 unfoldable pub turnOf : (labelled : Bool) → (budget : ℕ) → ℕ

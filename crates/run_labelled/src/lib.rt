@@ -5,6 +5,7 @@ ghost use mathlib.Core.Bool.{true, cond, not, _&&_};
 ghost use Prim.Native.Nat.{_+_, _*_, _≤_, _<_};
 ghost use lib.Dec.{eqb, ltb};
 ghost use lib.ListN.{length};
+ghost use Rattle.secret_counts.specs.Moved.{lowBit};
 ghost use Rattle.operation.specs.Layout.{wordsPerOperation, operationCount, opcodeAt};
 ghost use Rattle.operation.specs.Rules.{accesses};
 ghost use Rattle.validation.specs.Verdict.{settingsInRange};
@@ -13,10 +14,12 @@ ghost use Rattle.machine.specs.Memory.{spaces, lengthsOf};
 ghost use Rattle.machine.specs.Effect.{operationAt};
 ghost use Rattle.machine.specs.Run.{run};
 ghost use Rattle.machine.specs.Calls.{outcomeOf, labelledOutcome};
+ghost use Rattle.machine.specs.Counts.{countsFit};
+ghost use Rattle.machine.specs.MovedCounts.{MovedSpaces};
 ghost use Rattle.machine.specs.Conditions.{leaks, labelsAfter};
 ghost use Rattle.run_plan.specs.Valid.{Valid};
 ghost use Rattle.run_execution.specs.Loops.{position};
-ghost use Rattle.run_labelled.specs.Turns.{Fitting, turnOf, completes, offsetLogged, Markable};
+ghost use Rattle.run_labelled.specs.Turns.{Fitting, Countable, turnOf, completes, offsetLogged, Markable};
 use integer::boolean::both;
 use operation::layout::Settings;
 use operation::layout::opcode_at;
@@ -42,6 +45,9 @@ pub fn run_any(
     unique_labels: &mut [u8],
     register_labels: &mut [u8],
     ram_labels: &mut [u8],
+    unique_counts: &mut [u64],
+    register_counts: &mut [u64],
+    ram_counts: &mut [u64],
     log: &mut [u64],
     start: usize,
     from: usize,
@@ -49,12 +55,18 @@ pub fn run_any(
 ) -> Report
     requires { ⌜ Valid (lengthsOf (spaces (now unique) (now register) (now ram))) (now list) × (start ≤ operationCount (now list)) × (from ≤ length (now log))
         × Fitting labelled (spaces (now «unique_labels») (now «register_labels») (now «ram_labels»)) (spaces (now unique) (now register) (now ram))
-        × (settingsInRange settings ≡ true) ⌝ }
-    ensures { λ r. ⌜ labelledOutcome r (spaces (now (unique .exit)) (now (register .exit)) (now (ram .exit)))
+        × (settingsInRange settings ≡ true)
+        × Countable labelled (spaces (now «unique_labels») (now «register_labels») (now «ram_labels»))
+        (spaces (now «unique_counts») (now «register_counts») (now «ram_counts»)) ⌝ }
+    ensures { λ r. ⌜ (labelledOutcome r (spaces (now (unique .exit)) (now (register .exit)) (now (ram .exit)))
         (spaces (now («unique_labels» .exit)) (now («register_labels» .exit)) (now («ram_labels» .exit))) (now (log .exit))
         ≡ outcomeOf (now (log .entry)) (run (programOf settings (now (list .entry))) budget (position start from 0 (now (log .entry)))
         (spaces (now («unique_labels» .entry)) (now («register_labels» .entry)) (now («ram_labels» .entry)))
-        (spaces (now (unique .entry)) (now (register .entry)) (now (ram .entry)))) ⌝ }
+        (spaces (now (unique .entry)) (now (register .entry)) (now (ram .entry)))))
+        × MovedSpaces lowBit (spaces (now («unique_labels» .entry)) (now («register_labels» .entry)) (now («ram_labels» .entry)))
+        (spaces (now («unique_labels» .exit)) (now («register_labels» .exit)) (now («ram_labels» .exit)))
+        (spaces (now («unique_counts» .entry)) (now («register_counts» .entry)) (now («ram_counts» .entry)))
+        (spaces (now («unique_counts» .exit)) (now («register_counts» .exit)) (now («ram_counts» .exit))) ⌝ }
 {
     let most = turn(labelled, budget);
     let mut i = start;
@@ -71,6 +83,9 @@ pub fn run_any(
             unique_labels,
             register_labels,
             ram_labels,
+            unique_counts,
+            register_counts,
+            ram_counts,
             log,
             i,
             k,
@@ -107,6 +122,9 @@ fn step_at(
     unique_labels: &mut [u8],
     register_labels: &mut [u8],
     ram_labels: &mut [u8],
+    unique_counts: &mut [u64],
+    register_counts: &mut [u64],
+    ram_counts: &mut [u64],
     log: &mut [u64],
     i: usize,
     k: usize,
@@ -114,12 +132,18 @@ fn step_at(
 ) -> Report
     requires { ⌜ Valid (lengthsOf (spaces (now unique) (now register) (now ram))) (now list) × (i ≤ operationCount (now list)) × (k ≤ length (now log))
         × Fitting labelled (spaces (now «unique_labels») (now «register_labels») (now «ram_labels»)) (spaces (now unique) (now register) (now ram))
-        × (labelled ≡ true → most ≤ 1) × (settingsInRange settings ≡ true) ⌝ }
-    ensures { λ r. ⌜ labelledOutcome r (spaces (now (unique .exit)) (now (register .exit)) (now (ram .exit)))
+        × (labelled ≡ true → most ≤ 1) × (settingsInRange settings ≡ true)
+        × Countable labelled (spaces (now «unique_labels») (now «register_labels») (now «ram_labels»))
+        (spaces (now «unique_counts») (now «register_counts») (now «ram_counts»)) ⌝ }
+    ensures { λ r. ⌜ (labelledOutcome r (spaces (now (unique .exit)) (now (register .exit)) (now (ram .exit)))
         (spaces (now («unique_labels» .exit)) (now («register_labels» .exit)) (now («ram_labels» .exit))) (now (log .exit))
         ≡ outcomeOf (now (log .entry)) (run (programOf settings (now (list .entry))) most (position i k 0 (now (log .entry)))
         (spaces (now («unique_labels» .entry)) (now («register_labels» .entry)) (now («ram_labels» .entry)))
-        (spaces (now (unique .entry)) (now (register .entry)) (now (ram .entry)))) ⌝ }
+        (spaces (now (unique .entry)) (now (register .entry)) (now (ram .entry)))))
+        × MovedSpaces lowBit (spaces (now («unique_labels» .entry)) (now («register_labels» .entry)) (now («ram_labels» .entry)))
+        (spaces (now («unique_labels» .exit)) (now («register_labels» .exit)) (now («ram_labels» .exit)))
+        (spaces (now («unique_counts» .entry)) (now («register_counts» .entry)) (now («ram_counts» .entry)))
+        (spaces (now («unique_counts» .exit)) (now («register_counts» .exit)) (now («ram_counts» .exit))) ⌝ }
 {
     let leak = leaks_within(
         labelled,
@@ -142,6 +166,9 @@ fn step_at(
         unique_labels,
         register_labels,
         ram_labels,
+        unique_counts,
+        register_counts,
+        ram_counts,
         log,
         i,
         k,
@@ -185,16 +212,24 @@ fn mark_after(
     unique: &mut [u8],
     register: &mut [u8],
     ram: &mut [u8],
+    unique_counts: &mut [u64],
+    register_counts: &mut [u64],
+    ram_counts: &mut [u64],
     log: &[u64],
     i: usize,
     k: usize,
 )
-    requires { ⌜ (completed ≡ true → Markable (spaces (now unique) (now register) (now ram)) (now list) (now log) i k) ⌝ }
-    ensures { λ _. ⌜ spaces (now (unique .exit)) (now (register .exit)) (now (ram .exit))
+    requires { ⌜ (completed ≡ true → Markable (spaces (now unique) (now register) (now ram)) (now list) (now log) i k
+        × (countsFit (lengthsOf (spaces (now unique) (now register) (now ram))) (lengthsOf (spaces (now «unique_counts») (now «register_counts») (now «ram_counts»))) ≡ true)) ⌝ }
+    ensures { λ _. ⌜ (spaces (now (unique .exit)) (now (register .exit)) (now (ram .exit))
         ≡ cond completed
         (labelsAfter (bigEndian settings) (spaces (now (unique .entry)) (now (register .entry)) (now (ram .entry))) (operationAt (now (list .entry)) i)
         (offsetLogged (operationAt (now (list .entry)) i) (now (log .entry)) k))
-        (spaces (now (unique .entry)) (now (register .entry)) (now (ram .entry))) ⌝ }
+        (spaces (now (unique .entry)) (now (register .entry)) (now (ram .entry))))
+        × MovedSpaces lowBit (spaces (now (unique .entry)) (now (register .entry)) (now (ram .entry)))
+        (spaces (now (unique .exit)) (now (register .exit)) (now (ram .exit)))
+        (spaces (now («unique_counts» .entry)) (now («register_counts» .entry)) (now («ram_counts» .entry)))
+        (spaces (now («unique_counts» .exit)) (now («register_counts» .exit)) (now («ram_counts» .exit))) ⌝ }
 {
     if completed {
         let offset = logged_offset(list, log, i, k);
@@ -202,7 +237,16 @@ fn mark_after(
         if target.space != 0 {
             let big = settings.order == 1;
             let labels = labels_written(big, list, unique, register, ram, i, offset);
-            mark(unique, register, ram, target, labels);
+            mark(
+                unique,
+                register,
+                ram,
+                unique_counts,
+                register_counts,
+                ram_counts,
+                target,
+                labels,
+            );
         }
     }
 }

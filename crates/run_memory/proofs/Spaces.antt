@@ -1,20 +1,24 @@
 -- A varnode in the space n, 2 to 4, and a varnode in none of them.
-use Prim.Native.Nat.{ℕ, zero, suc, _+_, _≤_}
+use Prim.Native.Nat.{ℕ, zero, suc, _+_, _≤_, _<_}
 use mathlib.Core.Path.{_≡_, refl, sym, subst}
 use mathlib.Core.Logic.{_⊎_, inl, inr, ⊎-elim}
-use mathlib.Core.Bool.{Bool, false, cond}
-use mathlib.Core.List.{List}
+use mathlib.Core.Bool.{Bool, true, false, cond}
+use mathlib.Core.List.{List, _++_, append-assoc}
 use native.Mathlib.Omega.{arith}
-use borrow.Author.Tests.{eq-eqb, ne-eqb}
-use lib.Dec.{eqb}
-use lib.ListN.{length}
-use lib.Seq.{sets}
+use borrow.Author.Tests.{eq-eqb, ne-eqb, leb-true, leb-false}
+use lib.Dec.{eqb, leb}
+use lib.ListN.{length, take, drop, take-append-drop}
+use lib.Seq.{sets, sets-eq, drop-drop}
 use Rattle.word.specs.Sum.{sum, tabulate}
-use Rattle.word.specs.Word.{part, valueOf}
+use Rattle.word.specs.Word.{Bytes, part, valueOf}
+use Rattle.word.proofs.Laws.{part-length}
+use Rattle.word.proofs.Stores.{entries}
 use Rattle.operation.specs.declared.layout.Settings.{Settings}
 use Rattle.operation.specs.declared.layout.Varnode.{Varnode}
 use Rattle.machine.specs.Program.{bigEndian}
-use Rattle.machine.specs.Memory.{Memory, spaceOf, bytesAt, valueAt, withSpace, written}
+use Rattle.machine.specs.Memory.{Memory, spaces, OfBytes, spaceOf, bytesAt, valueAt, withSpace, written}
+use Rattle.machine.proofs.Cases.{either}
+use Rattle.machine.proofs.Conditions.{each-space}
 use Rattle.operation.specs.Layout.{absent}
 use Rattle.run_memory.specs.Placed.{Placed}
 
@@ -72,3 +76,40 @@ module _ (m : Memory) (v : Varnode) (not2 : v .space ≡ 2 → ⊥) (not3 : v .s
   pub written-elsewhere : (bs : List ℕ) → written m v bs ≡ m
   unfolding written withSpace
   written-elsewhere bs = rw (ne-eqb (v .space) 2 not2, ne-eqb (v .space) 3 not3, ne-eqb (v .space) 4 not4)
+
+-- ---- three lent buffers
+
+-- they hold bytes
+pub of-bytes : (unique register ram : List ℕ) → Bytes unique → Bytes register → Bytes ram → OfBytes (spaces unique register ram)
+unfolding spaceOf
+of-bytes unique register ram u r m space =
+    either Bytes (eqb space 2) _ _ u (either Bytes (eqb space 3) _ _ r (either Bytes (eqb space 4) _ _ m (λ i. omega arith)))
+
+-- ---- what is there already
+
+-- storing what is there changes nothing
+stored-same : (l : List ℕ) (at n : ℕ) → at + n ≤ length l → sets l at (part l at n) ≡ l
+unfolding part
+stored-same l at n h =
+    let parts : sets l at (part l at n) ≡ take at l ++ part l at n ++ drop (at + length (part l at n)) l =
+    sets-eq (part l at n) l at (rw (part-length l at n) h) in
+    let middle : part l at n ≡ take n (drop at l) = entries l at n h in
+    let rest : drop (at + length (part l at n)) l ≡ drop n (drop at l) = rw (part-length l at n, drop-drop n at l) refl in
+    let whole : take at l ++ (take n (drop at l) ++ drop n (drop at l)) ≡ l = rw (take-append-drop n (drop at l), take-append-drop at l) refl in
+    rw (parts, rest, middle, append-assoc (take at l) (take n (drop at l)) (drop n (drop at l))) whole
+
+pub space-kept : (n : ℕ) → 2 ≤ n → n ≤ 4 → (m : Memory) → withSpace m n (spaceOf m n) ≡ m
+unfolding spaceOf withSpace
+space-kept = each-space (λ n. (m : Memory) → withSpace m n (spaceOf m n) ≡ m) (λ m. refl) (λ m. refl) (λ m. refl)
+
+pub written-same : (m : Memory) (v : Varnode) → Placed m v → written m v (bytesAt m v) ≡ m
+unfolding bytesAt written
+written-same m v p = by (leb 2 (v .space)) refl
+  where
+    by : (t : Bool) → leb 2 (v .space) ≡ t → written m v (bytesAt m v) ≡ m
+    by true t =
+        let h : 2 ≤ v .space = leb-true 2 (v .space) t in
+        rw (stored-same (spaceOf m (v .space)) (v .offset) (v .size) (p .within h)) (space-kept (v .space) h (p .known) m)
+    by false t =
+        let low : v .space < 2 = leb-false 2 (v .space) t in
+        written-elsewhere m v (λ z. omega arith) (λ z. omega arith) (λ z. omega arith) (bytesAt m v)

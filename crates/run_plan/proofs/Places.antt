@@ -8,7 +8,7 @@ use native.Mathlib.Omega.{arith}
 use borrow.Author.Tests.{not-false}
 use lib.Dec.{eqb, leb}
 use lib.ListN.{length}
-use Rattle.word.specs.Word.{isSize, Bytes}
+use Rattle.word.specs.Word.{isSize}
 use Rattle.integer.proofs.Booleans.{both, one-to-eight}
 use Rattle.arithmetic.specs.Opcodes.{mostInputs, opcodes, rowOf, outputs, inputs, hasPlace, member}
 use Rattle.arithmetic.specs.Operands.{sizesAgree}
@@ -24,7 +24,6 @@ use Rattle.machine.specs.Memory.{Memory, OfBytes, spaces, lengthsOf, spaceOf, v
 use Rattle.machine.specs.Effect.{operationAt}
 use Rattle.machine.specs.Conditions.{Words}
 use Rattle.machine.proofs.Conditions.{Destination, Formed, formed, names-bytes, each-space}
-use Rattle.machine.proofs.Cases.{either}
 use Rattle.machine.proofs.Ranges.{in-range, space-small}
 use Rattle.run_memory.specs.Placed.{Placed}
 use Rattle.run_plan.specs.Valid.{Valid}
@@ -34,12 +33,6 @@ use Rattle.run_plan.proofs.Opcodes.{each-access, each-branch, access-no
 -- a list is valid by the lengths of the spaces alone
 pub valid-with : {a b : Lengths} {list : List ℕ} → a ≡ b → Valid b list → Valid a list
 valid-with {list = list} e v = subst (λ (l : Lengths). Valid l list) (sym e) v
-
--- three lent buffers hold bytes
-pub of-bytes : (unique register ram : List ℕ) → Bytes unique → Bytes register → Bytes ram → OfBytes (spaces unique register ram)
-unfolding spaceOf
-of-bytes unique register ram u r m space =
-    either Bytes (eqb space 2) _ _ u (either Bytes (eqb space 3) _ _ r (either Bytes (eqb space 4) _ _ m (λ i. omega arith)))
 
 pub space-length : (m : Memory) (space : ℕ) → lengthOf (lengthsOf m) space ≡ length (spaceOf m space)
 unfolding lengthOf lengthsOf spaceOf

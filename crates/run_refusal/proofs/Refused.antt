@@ -1,6 +1,6 @@
 -- The refusals in their order, by where the code leaves.
 use Prim.Native.Nat.{ℕ}
-use mathlib.Core.Bool.{Bool, true, false, cond, not, _&&_}
+use mathlib.Core.Bool.{Bool, true, false, cond, not, _&&_, and-false}
 use mathlib.Core.List.{List}
 use mathlib.Core.Path.{_≡_, refl, _∙_}
 use native.Mathlib.Omega.{arith}
@@ -29,9 +29,20 @@ none-early true false v e rest h z = absurd (let n : ⊥ = omega arith in n)
 none-early true true false e rest h z = absurd (let n : ⊥ = omega arith in n)
 none-early true true true e rest h z = refl
 
-start-report : (t : Bool) → refusalReport (cond t 27 0) 0 ≡ cond t (refusalReport 27 0) (refusalReport 0 0)
-start-report true = refl
-start-report false = refl
+-- the report of one of two endings
+picked-report : (t : Bool) (a b : ℕ) → refusalReport (cond t a b) 0 ≡ cond t (refusalReport a 0) (refusalReport b 0)
+picked-report true a b = refl
+picked-report false a b = refl
+
+-- filling counts: 11, then 12
+pub refused-counting : (unfit invalid : Bool) → refusalReport (cond unfit 11 (cond invalid 12 0)) 0
+    ≡ cond unfit (refusalReport 11 0) (cond invalid (refusalReport 12 0) (refusalReport 0 0))
+refused-counting unfit invalid = rw (picked-report unfit 11 (cond invalid 12 0), picked-report invalid 12 0) refl
+
+-- the test of the journal, after that of the labels or before it
+pub journal-first : (labels journal lent : Bool) → labels && (journal && lent) ≡ journal && (labels && lent)
+journal-first labels true lent = refl
+journal-first labels false lent = and-false labels
 
 module _ (settings : Settings) (lengths : Lengths) (list : List ℕ) (start : ℕ) (fitting valid : Bool) (early : ℕ)
     (is : early ≡ cond (not (settingsInRange settings)) 10 (cond (not (lengthsInRange lengths list && fitting)) 11 (cond (not valid) 12 0))) where
@@ -52,5 +63,5 @@ module _ (settings : Settings) (lengths : Lengths) (list : List ℕ) (start : �
   unfolding refusal
   refused-start z m =
       rw (eq-eqb (malformed (settings .«address_size») lengths list .rule) 0 m)
-      (start-report (ltb (operationCount list) start)
+      (picked-report (ltb (operationCount list) start) 27 0
       ∙ none-early (settingsInRange settings) (lengthsInRange lengths list && fitting) valid early _ is z)

@@ -1,10 +1,12 @@
 // What is refused before anything runs.
 ghost use mathlib.Core.Path.{_≡_};
 ghost use mathlib.Core.Bool.{true, cond, not, _&&_};
+ghost use mathlib.Core.List.{[]};
 ghost use Prim.Native.Nat.{max};
-ghost use Rattle.validation.specs.Verdict.{settingsInRange, lengthsInRange};
+ghost use Rattle.validation.specs.Verdict.{settingsInRange, lengthsInRange, refusalReport};
 ghost use Rattle.machine.specs.Memory.{spaces, lengthsOf};
 ghost use Rattle.machine.specs.Calls.{sameLengths, allLabels, labelsInRange, refusal};
+ghost use Rattle.machine.specs.Counts.{countsFit};
 ghost use Rattle.speculation.specs.Speculation.{speculativeRefusal};
 use integer::boolean::both;
 use integer::boolean::pick;
@@ -13,6 +15,7 @@ use operation::layout::Settings;
 use operation::layout::operation_count;
 use operation::report::Report;
 use run_memory::space::lengths_of;
+use secret_counts::count_words;
 use validation::first_malformed;
 use validation::lengths_in_range;
 use validation::refusal_report;
@@ -59,8 +62,8 @@ pub fn labelled_refusal(
     ram_labels: &[u8],
 ) -> Report
     ensures { λ r. ⌜ r ≡ refusal settings (lengthsOf (spaces (now (unique .entry)) (now (register .entry)) (now (ram .entry)))) (now (list .entry)) start
-        (lent && sameLengths (lengthsOf (spaces (now («unique_labels» .entry)) (now («register_labels» .entry)) (now («ram_labels» .entry))))
-        (lengthsOf (spaces (now (unique .entry)) (now (register .entry)) (now (ram .entry)))))
+        (sameLengths (lengthsOf (spaces (now («unique_labels» .entry)) (now («register_labels» .entry)) (now («ram_labels» .entry))))
+        (lengthsOf (spaces (now (unique .entry)) (now (register .entry)) (now (ram .entry)))) && lent)
         (labelsInRange (spaces (now («unique_labels» .entry)) (now («register_labels» .entry)) (now («ram_labels» .entry)))) ⌝ }
 {
     let lengths = lengths_of(unique, register, ram);
@@ -69,16 +72,17 @@ pub fn labelled_refusal(
         lengths,
     );
     let valid = labels_in_range(unique_labels, register_labels, ram_labels);
-    refusal(settings, lengths, list, start, both(lent, fitting), valid)
+    refusal(settings, lengths, list, start, both(fitting, lent), valid)
 }
 
-// The refusals of a speculative run with a journal of `words` words.
+// The refusals of a speculative run with a journal of `words` words; `lent` says that no other buffer calls for 11.
 pub fn speculative_refusal(
     settings: Settings,
     list: &[u64],
     start: u64,
     window: u64,
     words: usize,
+    lent: bool,
     unique: &[u8],
     register: &[u8],
     ram: &[u8],
@@ -89,7 +93,7 @@ pub fn speculative_refusal(
     ensures { λ r. ⌜ r ≡ speculativeRefusal settings (lengthsOf (spaces (now (unique .entry)) (now (register .entry)) (now (ram .entry)))) (now (list .entry)) start
         window words
         (sameLengths (lengthsOf (spaces (now («unique_labels» .entry)) (now («register_labels» .entry)) (now («ram_labels» .entry))))
-        (lengthsOf (spaces (now (unique .entry)) (now (register .entry)) (now (ram .entry)))))
+        (lengthsOf (spaces (now (unique .entry)) (now (register .entry)) (now (ram .entry)))) && lent)
         (labelsInRange (spaces (now («unique_labels» .entry)) (now («register_labels» .entry)) (now («ram_labels» .entry)))) ⌝ }
 {
     if MOST_AHEAD < window {
@@ -100,7 +104,7 @@ pub fn speculative_refusal(
         settings,
         list,
         start,
-        needed <= words as u64,
+        both(needed <= words as u64, lent),
         unique,
         register,
         ram,
@@ -110,8 +114,40 @@ pub fn speculative_refusal(
     )
 }
 
-// The refusals in their order, as a report; its ending is 0 where nothing is refused. `fitting` and `valid` say that no label calls
-// for 11 or for 12.
+// 11 LENGTH, for counts: each space has as many as it needs.
+pub fn counts_fit(lengths: Lengths, unique: usize, register: usize, ram: usize) -> bool
+    ensures { λ r. ⌜ r ≡ countsFit lengths (record { unique = unique; register = register; ram = ram }) ⌝ }
+{
+    let two = both(
+        count_words(lengths.unique) <= unique as u64,
+        count_words(lengths.register) <= register as u64,
+    );
+    both(two, count_words(lengths.ram) <= ram as u64)
+}
+
+// The refusals of filling counts: 11 for more labels than the largest space has bytes, or for counts that are too short; then 12.
+pub fn counting_refusal(
+    unique_labels: &[u8],
+    register_labels: &[u8],
+    ram_labels: &[u8],
+    unique: usize,
+    register: usize,
+    ram: usize,
+) -> Report
+    ensures { λ r. ⌜ r ≡ cond (not (lengthsInRange (lengthsOf (spaces (now («unique_labels» .entry)) (now («register_labels» .entry)) (now («ram_labels» .entry)))) []
+        && countsFit (lengthsOf (spaces (now («unique_labels» .entry)) (now («register_labels» .entry)) (now («ram_labels» .entry)))) (record { unique = unique; register = register; ram = ram }))) (refusalReport 11 0)
+        (cond (not (labelsInRange (spaces (now («unique_labels» .entry)) (now («register_labels» .entry)) (now («ram_labels» .entry))))) (refusalReport 12 0) (refusalReport 0 0)) ⌝ }
+{
+    let lengths = lengths_of(unique_labels, register_labels, ram_labels);
+    let fitting = counts_fit(lengths, unique, register, ram);
+    let no_list: [u64; 0] = [];
+    let in_range = both(lengths_in_range(lengths, &no_list), fitting);
+    let valid = labels_in_range(unique_labels, register_labels, ram_labels);
+    refusal_report(pick(!in_range, 11, pick(!valid, 12, 0)), 0)
+}
+
+// The refusals in their order, as a report; its ending is 0 where nothing is refused. `fitting` says that no labels and no other
+// lent buffer call for 11, `valid` that no label calls for 12.
 fn refusal(
     settings: Settings,
     lengths: Lengths,

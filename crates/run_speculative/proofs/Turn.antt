@@ -11,6 +11,7 @@ use lib.Seq.{take-append-seam, drop-append-seam, drop-drop}
 use Rattle.integer.proofs.Booleans.{both}
 use Rattle.operation.specs.declared.layout.Settings.{Settings}
 use Rattle.operation.specs.declared.report.Report.{Report}
+use Rattle.secret_counts.specs.Moved.{lowBit}
 use Rattle.arithmetic.specs.Opcodes.{member}
 use Rattle.operation.specs.Layout.{wordsPerOperation, operationCount, opcodeAt, varnodeAt}
 use Rattle.operation.specs.Rules.{branches, relativeTarget}
@@ -20,6 +21,7 @@ use Rattle.machine.specs.Memory.{Memory, OfBytes, lengthsOf, valueAt}
 use Rattle.machine.specs.Effect.{Operation, Kind, operationAt, kindOf, target}
 use Rattle.machine.specs.Run.{Decision, Position, Ended, Stepped, indexOf, goTo, ended, applyDecision, executeAs, execute, stepped, continued, run}
 use Rattle.machine.specs.Calls.{Outcome, logAfter, outcomeOf, labelledOutcome}
+use Rattle.machine.specs.MovedCounts.{MovedSpaces}
 use Rattle.machine.specs.Conditions.{Words}
 use Rattle.machine.proofs.Cases.{either}
 use Rattle.machine.proofs.Conditions.{absent-written}
@@ -91,10 +93,10 @@ pub record Ran (program : Program) (i k most window : ℕ) (log : List ℕ) (lab
   pub single : eqb window 0 ≡ false → most ≤ 1
   pub left : labelledOutcome done m₁ labels₁ log₁ ≡ outcomeOf log (run program most (position i k 0 log) labels m)
 
-pub ran-from : (settings : Settings) (window : ℕ) {A : Type 0} {list : List ℕ} {i k most : ℕ} {log : List ℕ} {labels m : Memory} {done : Report} {m₁ labels₁ : Memory} {log₁ : List ℕ}
+pub ran-from : (settings : Settings) (window : ℕ) {A B : Type 0} {list : List ℕ} {i k most : ℕ} {log : List ℕ} {labels m : Memory} {done : Report} {m₁ labels₁ : Memory} {log₁ : List ℕ}
     → Words list → OfBytes m
     → Valid (lengthsOf m) list × (i ≤ operationCount list) × (k ≤ length log) × (lengthsOf labels ≡ lengthsOf m) × (settingsInRange settings ≡ true)
-    × (eqb window 0 ≡ false → most ≤ 1) × A
+    × (eqb window 0 ≡ false → most ≤ 1) × A × B
     → labelledOutcome done m₁ labels₁ log₁ ≡ outcomeOf log (run (programOf settings list) most (position i k 0 log) labels m)
     → Ran (programOf settings list) i k most window log labels m done m₁ labels₁ log₁
 ran-from settings window words bytes pre left =
@@ -380,3 +382,10 @@ module _ {program : Program} {i k most window : ℕ} {log : List ℕ} {labels m 
           by true f = refl
           by false true = refl
           by false false = let same = one-same program at labels m (o .branch) in rw (same .0, same .1) refl
+
+-- ---- the counts
+
+-- a window leaves them, and the labels, as it found them
+pub past-window : {labels₀ labels labels′ counts₀ counts counts′ : Memory} → labels′ ≡ labels → counts′ ≡ counts
+    → MovedSpaces lowBit labels₀ labels counts₀ counts → MovedSpaces lowBit labels₀ labels′ counts₀ counts′
+past-window l c moved = rw (l, c) moved

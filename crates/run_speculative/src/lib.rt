@@ -4,11 +4,14 @@ ghost use mathlib.Core.Bool.{true, false};
 ghost use Prim.Native.Nat.{_+_, _*_, _≤_, _<_};
 ghost use lib.Dec.{eqb};
 ghost use lib.ListN.{length};
+ghost use Rattle.secret_counts.specs.Moved.{lowBit};
 ghost use Rattle.operation.specs.Layout.{wordsPerOperation, operationCount};
 ghost use Rattle.validation.specs.Verdict.{mostOperations, settingsInRange};
 ghost use Rattle.machine.specs.Program.{programOf};
 ghost use Rattle.machine.specs.Memory.{spaces, lengthsOf};
 ghost use Rattle.machine.specs.Calls.{outcomeOf, labelledOutcome};
+ghost use Rattle.machine.specs.Counts.{countsFit};
+ghost use Rattle.machine.specs.MovedCounts.{MovedSpaces};
 ghost use Rattle.speculation.specs.Speculation.{journalWords, speculate};
 ghost use Rattle.run_plan.specs.Valid.{Valid};
 ghost use Rattle.run_execution.specs.Loops.{position};
@@ -37,6 +40,9 @@ pub fn speculate_from(
     unique_labels: &mut [u8],
     register_labels: &mut [u8],
     ram_labels: &mut [u8],
+    unique_counts: &mut [u64],
+    register_counts: &mut [u64],
+    ram_counts: &mut [u64],
     log: &mut [u64],
     journal: &mut [u64],
     start: usize,
@@ -45,13 +51,18 @@ pub fn speculate_from(
 ) -> Report
     requires { ⌜ Valid (lengthsOf (spaces (now unique) (now register) (now ram))) (now list) × (start ≤ operationCount (now list))
         × (lengthsOf (spaces (now «unique_labels») (now «register_labels») (now «ram_labels»)) ≡ lengthsOf (spaces (now unique) (now register) (now ram)))
-        × (settingsInRange settings ≡ true) × (journalWords window ≤ length (now journal)) ⌝ }
+        × (settingsInRange settings ≡ true) × (journalWords window ≤ length (now journal))
+        × (countsFit (lengthsOf (spaces (now «unique_labels») (now «register_labels») (now «ram_labels»))) (lengthsOf (spaces (now «unique_counts») (now «register_counts») (now «ram_counts»))) ≡ true) ⌝ }
     ensures { λ r. ⌜ (labelledOutcome r (spaces (now (unique .exit)) (now (register .exit)) (now (ram .exit)))
         (spaces (now («unique_labels» .exit)) (now («register_labels» .exit)) (now («ram_labels» .exit))) (now (log .exit))
         ≡ outcomeOf (now (log .entry)) (speculate (programOf settings (now (list .entry))) window budget (position start 0 0 (now (log .entry)))
         (spaces (now («unique_labels» .entry)) (now («register_labels» .entry)) (now («ram_labels» .entry)))
         (spaces (now (unique .entry)) (now (register .entry)) (now (ram .entry)))))
-        × Spared window (now (journal .entry)) (now (journal .exit)) ⌝ }
+        × Spared window (now (journal .entry)) (now (journal .exit))
+        × MovedSpaces lowBit (spaces (now («unique_labels» .entry)) (now («register_labels» .entry)) (now («ram_labels» .entry)))
+        (spaces (now («unique_labels» .exit)) (now («register_labels» .exit)) (now («ram_labels» .exit)))
+        (spaces (now («unique_counts» .entry)) (now («register_counts» .entry)) (now («ram_counts» .entry)))
+        (spaces (now («unique_counts» .exit)) (now («register_counts» .exit)) (now («ram_counts» .exit))) ⌝ }
 {
     let most = turn(window != 0, budget);
     let mut i = start;
@@ -67,6 +78,9 @@ pub fn speculate_from(
             unique_labels,
             register_labels,
             ram_labels,
+            unique_counts,
+            register_counts,
+            ram_counts,
             log,
             journal,
             i,
@@ -93,6 +107,9 @@ fn speculate_at(
     unique_labels: &mut [u8],
     register_labels: &mut [u8],
     ram_labels: &mut [u8],
+    unique_counts: &mut [u64],
+    register_counts: &mut [u64],
+    ram_counts: &mut [u64],
     log: &mut [u64],
     journal: &mut [u64],
     i: usize,
@@ -102,13 +119,18 @@ fn speculate_at(
 ) -> Report
     requires { ⌜ Valid (lengthsOf (spaces (now unique) (now register) (now ram))) (now list) × (i ≤ operationCount (now list)) × (k ≤ length (now log))
         × (lengthsOf (spaces (now «unique_labels») (now «register_labels») (now «ram_labels»)) ≡ lengthsOf (spaces (now unique) (now register) (now ram)))
-        × (settingsInRange settings ≡ true) × (eqb window 0 ≡ false → most ≤ 1) × (journalWords window ≤ length (now journal)) ⌝ }
+        × (settingsInRange settings ≡ true) × (eqb window 0 ≡ false → most ≤ 1) × (journalWords window ≤ length (now journal))
+        × (countsFit (lengthsOf (spaces (now «unique_labels») (now «register_labels») (now «ram_labels»))) (lengthsOf (spaces (now «unique_counts») (now «register_counts») (now «ram_counts»))) ≡ true) ⌝ }
     ensures { λ r. ⌜ (labelledOutcome r (spaces (now (unique .exit)) (now (register .exit)) (now (ram .exit)))
         (spaces (now («unique_labels» .exit)) (now («register_labels» .exit)) (now («ram_labels» .exit))) (now (log .exit))
         ≡ outcomeOf (now (log .entry)) (speculate (programOf settings (now (list .entry))) window most (position i k 0 (now (log .entry)))
         (spaces (now («unique_labels» .entry)) (now («register_labels» .entry)) (now («ram_labels» .entry)))
         (spaces (now (unique .entry)) (now (register .entry)) (now (ram .entry)))))
-        × Spared window (now (journal .entry)) (now (journal .exit)) ⌝ }
+        × Spared window (now (journal .entry)) (now (journal .exit))
+        × MovedSpaces lowBit (spaces (now («unique_labels» .entry)) (now («register_labels» .entry)) (now («ram_labels» .entry)))
+        (spaces (now («unique_labels» .exit)) (now («register_labels» .exit)) (now («ram_labels» .exit)))
+        (spaces (now («unique_counts» .entry)) (now («register_counts» .entry)) (now («ram_counts» .entry)))
+        (spaces (now («unique_counts» .exit)) (now («register_counts» .exit)) (now («ram_counts» .exit))) ⌝ }
 {
     let done = run_any(
         true,
@@ -120,6 +142,9 @@ fn speculate_at(
         unique_labels,
         register_labels,
         ram_labels,
+        unique_counts,
+        register_counts,
+        ram_counts,
         log,
         i,
         k,
@@ -138,6 +163,9 @@ fn speculate_at(
         unique_labels,
         register_labels,
         ram_labels,
+        unique_counts,
+        register_counts,
+        ram_counts,
         log,
         journal,
         other,

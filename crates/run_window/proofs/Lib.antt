@@ -1,3 +1,4 @@
 pub mod Saving
 pub mod SavedRun
 pub mod Marks
+pub mod GivenBack

@@ -3,12 +3,15 @@ ghost use mathlib.Core.Path.{_≡_};
 ghost use mathlib.Core.Bool.{true};
 ghost use Prim.Native.Nat.{ℕ, _+_, _-_, _≤_, _<_};
 ghost use lib.ListN.{length, getD};
+ghost use Rattle.secret_counts.specs.Moved.{lowBit};
 ghost use Rattle.operation.specs.Layout.{operationCount};
 ghost use Rattle.validation.specs.Verdict.{settingsInRange};
 ghost use Rattle.machine.specs.Program.{programOf};
 ghost use Rattle.machine.specs.Memory.{spaces, lengthsOf};
 ghost use Rattle.machine.specs.Run.{run};
 ghost use Rattle.machine.specs.Calls.{outcomeOf, labelledOutcome};
+ghost use Rattle.machine.specs.Counts.{countsFit};
+ghost use Rattle.machine.specs.MovedCounts.{MovedSpaces};
 ghost use Rattle.speculation.specs.Window.{ahead, windowMark};
 ghost use Rattle.speculation.specs.Speculation.{journalWords};
 ghost use Rattle.run_plan.specs.Valid.{Valid};
@@ -35,6 +38,9 @@ pub fn open_window(
     unique_labels: &mut [u8],
     register_labels: &mut [u8],
     ram_labels: &mut [u8],
+    unique_counts: &mut [u64],
+    register_counts: &mut [u64],
+    ram_counts: &mut [u64],
     log: &mut [u64],
     journal: &mut [u64],
     start: usize,
@@ -43,7 +49,8 @@ pub fn open_window(
 ) -> Report
     requires { ⌜ Valid (lengthsOf (spaces (now unique) (now register) (now ram))) (now list) × (start ≤ operationCount (now list)) × (from ≤ length (now log))
         × (lengthsOf (spaces (now «unique_labels») (now «register_labels») (now «ram_labels»)) ≡ lengthsOf (spaces (now unique) (now register) (now ram)))
-        × (settingsInRange settings ≡ true) × (0 < window) × (journalWords window ≤ length (now journal)) ⌝ }
+        × (settingsInRange settings ≡ true) × (0 < window) × (journalWords window ≤ length (now journal))
+        × (countsFit (lengthsOf (spaces (now «unique_labels») (now «register_labels») (now «ram_labels»))) (lengthsOf (spaces (now «unique_counts») (now «register_counts») (now «ram_counts»))) ≡ true) ⌝ }
     ensures { λ r. ⌜ (labelledOutcome r (spaces (now (unique .exit)) (now (register .exit)) (now (ram .exit)))
         (spaces (now («unique_labels» .exit)) (now («register_labels» .exit)) (now («ram_labels» .exit))) (now (log .exit))
         ≡ windowOutcome from (now (log .entry)) (spaces (now («unique_labels» .entry)) (now («register_labels» .entry)) (now («ram_labels» .entry)))
@@ -51,7 +58,9 @@ pub fn open_window(
         (ahead (programOf settings (now (list .entry))) window start (length (now (log .entry)) - from)
         (spaces (now («unique_labels» .entry)) (now («register_labels» .entry)) (now («ram_labels» .entry)))
         (spaces (now (unique .entry)) (now (register .entry)) (now (ram .entry)))))
-        × Spared window (now (journal .entry)) (now (journal .exit)) ⌝ }
+        × Spared window (now (journal .entry)) (now (journal .exit))
+        × (spaces (now («unique_counts» .exit)) (now («register_counts» .exit)) (now («ram_counts» .exit))
+        ≡ spaces (now («unique_counts» .entry)) (now («register_counts» .entry)) (now («ram_counts» .entry))) ⌝ }
 {
     let went = run_saved(
         settings,
@@ -62,6 +71,9 @@ pub fn open_window(
         unique_labels,
         register_labels,
         ram_labels,
+        unique_counts,
+        register_counts,
+        ram_counts,
         log,
         journal,
         start,
@@ -75,6 +87,9 @@ pub fn open_window(
         unique_labels,
         register_labels,
         ram_labels,
+        unique_counts,
+        register_counts,
+        ram_counts,
         journal,
         went.executed as usize,
     );
@@ -92,6 +107,9 @@ fn run_saved(
     unique_labels: &mut [u8],
     register_labels: &mut [u8],
     ram_labels: &mut [u8],
+    unique_counts: &mut [u64],
+    register_counts: &mut [u64],
+    ram_counts: &mut [u64],
     log: &mut [u64],
     journal: &mut [u64],
     start: usize,
@@ -100,7 +118,8 @@ fn run_saved(
 ) -> Report
     requires { ⌜ Valid (lengthsOf (spaces (now unique) (now register) (now ram))) (now list) × (start ≤ operationCount (now list)) × (from ≤ length (now log))
         × (lengthsOf (spaces (now «unique_labels») (now «register_labels») (now «ram_labels»)) ≡ lengthsOf (spaces (now unique) (now register) (now ram)))
-        × (settingsInRange settings ≡ true) × (0 < window) × (journalWords window ≤ length (now journal)) ⌝ }
+        × (settingsInRange settings ≡ true) × (0 < window) × (journalWords window ≤ length (now journal))
+        × (countsFit (lengthsOf (spaces (now «unique_labels») (now «register_labels») (now «ram_labels»))) (lengthsOf (spaces (now «unique_counts») (now «register_counts») (now «ram_counts»))) ≡ true) ⌝ }
     ensures { λ r. ⌜ (labelledOutcome r (spaces (now (unique .exit)) (now (register .exit)) (now (ram .exit)))
         (spaces (now («unique_labels» .exit)) (now («register_labels» .exit)) (now («ram_labels» .exit))) (now (log .exit))
         ≡ outcomeOf (now (log .entry)) (run (programOf settings (now (list .entry))) window (position start from 0 (now (log .entry)))
@@ -109,7 +128,11 @@ fn run_saved(
         × Saved window (now (journal .entry)) (spaces (now («unique_labels» .entry)) (now («register_labels» .entry)) (now («ram_labels» .entry)))
         (spaces (now (unique .entry)) (now (register .entry)) (now (ram .entry))) (r .executed) (now (journal .exit))
         (spaces (now («unique_labels» .exit)) (now («register_labels» .exit)) (now («ram_labels» .exit)))
-        (spaces (now (unique .exit)) (now (register .exit)) (now (ram .exit))) ⌝ }
+        (spaces (now (unique .exit)) (now (register .exit)) (now (ram .exit)))
+        × MovedSpaces lowBit (spaces (now («unique_labels» .entry)) (now («register_labels» .entry)) (now («ram_labels» .entry)))
+        (spaces (now («unique_labels» .exit)) (now («register_labels» .exit)) (now («ram_labels» .exit)))
+        (spaces (now («unique_counts» .entry)) (now («register_counts» .entry)) (now («ram_counts» .entry)))
+        (spaces (now («unique_counts» .exit)) (now («register_counts» .exit)) (now («ram_counts» .exit))) ⌝ }
 {
     let mut i = start;
     let mut k = from;
@@ -138,6 +161,9 @@ fn run_saved(
             unique_labels,
             register_labels,
             ram_labels,
+            unique_counts,
+            register_counts,
+            ram_counts,
             log,
             i,
             k,

@@ -1,14 +1,18 @@
 // The runs with their refusals: crates/interpreter has them as public calls.
 ghost use Rattle.machine.specs.Memory.{spaces};
-ghost use Rattle.runs.specs.Promises.{RunPromise, LabelledRunPromise, SpeculativeRunPromise};
+ghost use Rattle.runs.specs.Promises.{RunPromise, LabelledRunPromise, SpeculativeRunPromise, CountingPromise};
 use operation::layout::Settings;
 use operation::report::Report;
 use run_journal::clear;
 use run_labelled::run_any;
+use run_memory::space::lengths_of;
+use run_refusal::counting_refusal;
+use run_refusal::counts_fit;
 use run_refusal::labelled_refusal;
 use run_refusal::plain_refusal;
 use run_refusal::speculative_refusal;
 use run_speculative::speculate_from;
+use secret_counts::fill;
 
 // A run of at most `budget` operations, from operation `start`, without labels: the papers' plain run.
 pub fn run(
@@ -32,6 +36,9 @@ pub fn run(
     let mut unique_labels: [u8; 0] = [];
     let mut register_labels: [u8; 0] = [];
     let mut ram_labels: [u8; 0] = [];
+    let mut unique_counts: [u64; 0] = [];
+    let mut register_counts: [u64; 0] = [];
+    let mut ram_counts: [u64; 0] = [];
     run_any(
         false,
         settings,
@@ -42,6 +49,9 @@ pub fn run(
         &mut unique_labels,
         &mut register_labels,
         &mut ram_labels,
+        &mut unique_counts,
+        &mut register_counts,
+        &mut ram_counts,
         log,
         start as usize,
         0,
@@ -49,7 +59,7 @@ pub fn run(
     )
 }
 
-// A run with a label for each byte of each space, 0 public or 1 secret: the papers' labelled run.
+// A run with a label for each byte of each space, 0 public or 1 secret, and counts of the secret bytes: the papers' labelled run.
 pub fn labelled_run(
     settings: Settings,
     list: &[u64],
@@ -61,19 +71,30 @@ pub fn labelled_run(
     unique_labels: &mut [u8],
     register_labels: &mut [u8],
     ram_labels: &mut [u8],
+    unique_counts: &mut [u64],
+    register_counts: &mut [u64],
+    ram_counts: &mut [u64],
     log: &mut [u64],
 ) -> Report
     ensures { λ r. ⌜ LabelledRunPromise settings (now (list .entry)) start budget
         (spaces (now (unique .entry)) (now (register .entry)) (now (ram .entry)))
-        (spaces (now («unique_labels» .entry)) (now («register_labels» .entry)) (now («ram_labels» .entry))) (now (log .entry))
+        (spaces (now («unique_labels» .entry)) (now («register_labels» .entry)) (now («ram_labels» .entry)))
+        (spaces (now («unique_counts» .entry)) (now («register_counts» .entry)) (now («ram_counts» .entry))) (now (log .entry))
         (spaces (now (unique .exit)) (now (register .exit)) (now (ram .exit)))
-        (spaces (now («unique_labels» .exit)) (now («register_labels» .exit)) (now («ram_labels» .exit))) (now (log .exit)) r ⌝ }
+        (spaces (now («unique_labels» .exit)) (now («register_labels» .exit)) (now («ram_labels» .exit)))
+        (spaces (now («unique_counts» .exit)) (now («register_counts» .exit)) (now («ram_counts» .exit))) (now (log .exit)) r ⌝ }
 {
+    let lent = counts_fit(
+        lengths_of(unique, register, ram),
+        unique_counts.len(),
+        register_counts.len(),
+        ram_counts.len(),
+    );
     let refused = labelled_refusal(
         settings,
         list,
         start,
-        true,
+        lent,
         unique,
         register,
         ram,
@@ -94,6 +115,9 @@ pub fn labelled_run(
         unique_labels,
         register_labels,
         ram_labels,
+        unique_counts,
+        register_counts,
+        ram_counts,
         log,
         start as usize,
         0,
@@ -114,21 +138,33 @@ pub fn speculative_run(
     unique_labels: &mut [u8],
     register_labels: &mut [u8],
     ram_labels: &mut [u8],
+    unique_counts: &mut [u64],
+    register_counts: &mut [u64],
+    ram_counts: &mut [u64],
     log: &mut [u64],
     journal: &mut [u64],
 ) -> Report
     ensures { λ r. ⌜ SpeculativeRunPromise settings (now (list .entry)) start budget window
         (spaces (now (unique .entry)) (now (register .entry)) (now (ram .entry)))
-        (spaces (now («unique_labels» .entry)) (now («register_labels» .entry)) (now («ram_labels» .entry))) (now (log .entry)) (now (journal .entry))
+        (spaces (now («unique_labels» .entry)) (now («register_labels» .entry)) (now («ram_labels» .entry)))
+        (spaces (now («unique_counts» .entry)) (now («register_counts» .entry)) (now («ram_counts» .entry))) (now (log .entry)) (now (journal .entry))
         (spaces (now (unique .exit)) (now (register .exit)) (now (ram .exit)))
-        (spaces (now («unique_labels» .exit)) (now («register_labels» .exit)) (now («ram_labels» .exit))) (now (log .exit)) (now (journal .exit)) r ⌝ }
+        (spaces (now («unique_labels» .exit)) (now («register_labels» .exit)) (now («ram_labels» .exit)))
+        (spaces (now («unique_counts» .exit)) (now («register_counts» .exit)) (now («ram_counts» .exit))) (now (log .exit)) (now (journal .exit)) r ⌝ }
 {
+    let lent = counts_fit(
+        lengths_of(unique, register, ram),
+        unique_counts.len(),
+        register_counts.len(),
+        ram_counts.len(),
+    );
     let refused = speculative_refusal(
         settings,
         list,
         start,
         window,
         journal.len(),
+        lent,
         unique,
         register,
         ram,
@@ -148,6 +184,9 @@ pub fn speculative_run(
         unique_labels,
         register_labels,
         ram_labels,
+        unique_counts,
+        register_counts,
+        ram_counts,
         log,
         journal,
         start as usize,
@@ -156,4 +195,33 @@ pub fn speculative_run(
     );
     clear(journal, window as usize);
     ran
+}
+
+// Fills the counts of secret bytes from the labels.
+pub fn count_secrets(
+    unique_labels: &[u8],
+    register_labels: &[u8],
+    ram_labels: &[u8],
+    unique_counts: &mut [u64],
+    register_counts: &mut [u64],
+    ram_counts: &mut [u64],
+) -> Report
+    ensures { λ r. ⌜ CountingPromise (spaces (now («unique_labels» .entry)) (now («register_labels» .entry)) (now («ram_labels» .entry)))
+        (spaces (now («unique_counts» .entry)) (now («register_counts» .entry)) (now («ram_counts» .entry)))
+        (spaces (now («unique_counts» .exit)) (now («register_counts» .exit)) (now («ram_counts» .exit))) r ⌝ }
+{
+    let refused = counting_refusal(
+        unique_labels,
+        register_labels,
+        ram_labels,
+        unique_counts.len(),
+        register_counts.len(),
+        ram_counts.len(),
+    );
+    if refused.ending == 0 {
+        fill(unique_labels, unique_counts);
+        fill(register_labels, register_counts);
+        fill(ram_labels, ram_counts);
+    }
+    refused
 }

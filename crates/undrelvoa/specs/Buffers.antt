@@ -7,7 +7,8 @@ use Rattle.operation.specs.declared.layout.Settings.{Settings}
 use Rattle.operation.specs.declared.report.Report.{Report}
 use Rattle.machine.specs.Memory.{Memory}
 use Rattle.machine.specs.Calls.{Outcome, unlabelled}
-use Rattle.speculation.specs.Speculation.{Speculation}
+use Rattle.machine.specs.Counts.{CountedOutcome, Counting}
+use Rattle.speculation.specs.Counts.{CountedSpeculation}
 
 -- A report in its words: ending, index, operations executed, log words written, value.
 unfoldable pub reportWords : Report → List ℕ
@@ -22,7 +23,7 @@ settingsIn ws =
       wordsizes = record { unique = getD ws 2 0; register = getD ws 3 0; ram = getD ws 4 0 };
     }
 
--- The buffers lent to a run.
+-- The buffers lent to a run, counts aside.
 pub record Buffers : Type 0 where
   pub memory : Memory
   pub labels : Memory
@@ -32,10 +33,6 @@ pub record Buffers : Type 0 where
 -- Of a run without labels.
 abbrev pub plainBuffers : Memory → (log report : List ℕ) → Buffers
 plainBuffers m log report = record { memory = m; labels = unlabelled; log = log; report = report }
-
--- Of a labelled run.
-abbrev pub labelledBuffers : (memory labels : Memory) → (log report : List ℕ) → Buffers
-labelledBuffers m labels log report = record { memory = m; labels = labels; log = log; report = report }
 
 -- What a run leaves in them, with the words of its report at the start of the report's buffer.
 unfoldable pub after : (report : List ℕ) → Outcome → Buffers
@@ -47,14 +44,38 @@ after report outcome =
       report = sets report 0 (reportWords (outcome .report));
     }
 
+-- The buffers lent to a labelled run.
+pub record LabelledBuffers : Type 0 where
+  pub buffers : Buffers
+  pub counts : Memory
+
+abbrev pub labelledBuffers : (memory labels counts : Memory) → (log report : List ℕ) → LabelledBuffers
+labelledBuffers m labels counts log report = record { buffers = record { memory = m; labels = labels; log = log; report = report }; counts = counts }
+
+-- What a labelled run leaves in them.
+unfoldable pub afterLabelled : (report : List ℕ) → CountedOutcome → LabelledBuffers
+afterLabelled report o = record { buffers = after report (o .outcome); counts = o .counts }
+
 -- The buffers lent to a speculative run.
 pub record SpeculativeBuffers : Type 0 where
-  pub buffers : Buffers
+  pub buffers : LabelledBuffers
   pub journal : List ℕ
 
-abbrev pub speculativeBuffers : (memory labels : Memory) → (log journal report : List ℕ) → SpeculativeBuffers
-speculativeBuffers m labels log journal report = record { buffers = labelledBuffers m labels log report; journal = journal }
+abbrev pub speculativeBuffers : (memory labels counts : Memory) → (log journal report : List ℕ) → SpeculativeBuffers
+speculativeBuffers m labels counts log journal report = record { buffers = labelledBuffers m labels counts log report; journal = journal }
 
 -- What a speculative run leaves in them.
-unfoldable pub afterSpeculation : (report : List ℕ) → Speculation → SpeculativeBuffers
-afterSpeculation report s = record { buffers = after report (s .outcome); journal = s .journal }
+unfoldable pub afterSpeculation : (report : List ℕ) → CountedSpeculation → SpeculativeBuffers
+afterSpeculation report s = record { buffers = record { buffers = after report (s .speculation .outcome); counts = s .counts }; journal = s .speculation .journal }
+
+-- The buffers lent to be filled.
+pub record CountingBuffers : Type 0 where
+  pub counts : Memory
+  pub report : List ℕ
+
+abbrev pub countingBuffers : (counts : Memory) → (report : List ℕ) → CountingBuffers
+countingBuffers counts report = record { counts = counts; report = report }
+
+-- What filling leaves in them.
+unfoldable pub afterCounting : (report : List ℕ) → Counting → CountingBuffers
+afterCounting report c = countingBuffers (c .counts) (sets report 0 (reportWords (c .report)))

@@ -12,11 +12,13 @@ ghost use Rattle.arithmetic.specs.Result.{result};
 ghost use Rattle.machine.specs.Memory.{spaces};
 ghost use Rattle.undrelvoa_faults.specs.Faults.{valueFault, gatherFault, scatterFault, placeFault};
 ghost use Rattle.undrelvoa.specs.Calls.{AnswerPromise, BuffersPromise, LabelledBuffersPromise, SpeculativeBuffersPromise};
+ghost use Rattle.undrelvoa.specs.Calls.{ReportAnswerPromise, CountingBuffersPromise};
 ghost use Rattle.undrelvoa.specs.Answers.{verdictWords, shownLength, placeWords};
 use operation::layout::Lengths;
 use undrelvoa_faults::of_gather;
 use undrelvoa_faults::of_lengths;
 use undrelvoa_faults::of_place;
+use undrelvoa_faults::of_report;
 use undrelvoa_faults::of_scatter;
 use undrelvoa_faults::of_value;
 use words::settings_in;
@@ -176,6 +178,9 @@ pub extern "C" fn undrelvoa_labelled_run(
     unique_labels: &mut [u8],
     register_labels: &mut [u8],
     ram_labels: &mut [u8],
+    unique_counts: &mut [u64],
+    register_counts: &mut [u64],
+    ram_counts: &mut [u64],
     log: &mut [u64],
     report: &mut [u64],
 ) -> u64
@@ -183,9 +188,11 @@ pub extern "C" fn undrelvoa_labelled_run(
     ensures buffers { λ r. ⌜ LabelledBuffersPromise (now (settings .entry)) (now (list .entry)) start budget
         (spaces (now (unique .entry)) (now (register .entry)) (now (ram .entry)))
         (spaces (now («unique_labels» .entry)) (now («register_labels» .entry)) (now («ram_labels» .entry)))
+        (spaces (now («unique_counts» .entry)) (now («register_counts» .entry)) (now («ram_counts» .entry)))
         (now (log .entry)) (now (report .entry))
         (spaces (now (unique .exit)) (now (register .exit)) (now (ram .exit)))
         (spaces (now («unique_labels» .exit)) (now («register_labels» .exit)) (now («ram_labels» .exit)))
+        (spaces (now («unique_counts» .exit)) (now («register_counts» .exit)) (now («ram_counts» .exit)))
         (now (log .exit)) (now (report .exit)) r ⌝ }
 {
     let fault = of_lengths(settings.len(), report.len());
@@ -204,6 +211,9 @@ pub extern "C" fn undrelvoa_labelled_run(
         unique_labels,
         register_labels,
         ram_labels,
+        unique_counts,
+        register_counts,
+        ram_counts,
         log,
     );
     write_report(report, ran);
@@ -221,6 +231,9 @@ pub extern "C" fn undrelvoa_labelled_step(
     unique_labels: &mut [u8],
     register_labels: &mut [u8],
     ram_labels: &mut [u8],
+    unique_counts: &mut [u64],
+    register_counts: &mut [u64],
+    ram_counts: &mut [u64],
     log: &mut [u64],
     report: &mut [u64],
 ) -> u64
@@ -228,9 +241,11 @@ pub extern "C" fn undrelvoa_labelled_step(
     ensures buffers { λ r. ⌜ LabelledBuffersPromise (now (settings .entry)) (now (list .entry)) start 1
         (spaces (now (unique .entry)) (now (register .entry)) (now (ram .entry)))
         (spaces (now («unique_labels» .entry)) (now («register_labels» .entry)) (now («ram_labels» .entry)))
+        (spaces (now («unique_counts» .entry)) (now («register_counts» .entry)) (now («ram_counts» .entry)))
         (now (log .entry)) (now (report .entry))
         (spaces (now (unique .exit)) (now (register .exit)) (now (ram .exit)))
         (spaces (now («unique_labels» .exit)) (now («register_labels» .exit)) (now («ram_labels» .exit)))
+        (spaces (now («unique_counts» .exit)) (now («register_counts» .exit)) (now («ram_counts» .exit)))
         (now (log .exit)) (now (report .exit)) r ⌝ }
 {
     let fault = of_lengths(settings.len(), report.len());
@@ -248,6 +263,9 @@ pub extern "C" fn undrelvoa_labelled_step(
         unique_labels,
         register_labels,
         ram_labels,
+        unique_counts,
+        register_counts,
+        ram_counts,
         log,
     );
     write_report(report, ran);
@@ -267,6 +285,9 @@ pub extern "C" fn undrelvoa_speculative_run(
     unique_labels: &mut [u8],
     register_labels: &mut [u8],
     ram_labels: &mut [u8],
+    unique_counts: &mut [u64],
+    register_counts: &mut [u64],
+    ram_counts: &mut [u64],
     log: &mut [u64],
     journal: &mut [u64],
     report: &mut [u64],
@@ -275,9 +296,11 @@ pub extern "C" fn undrelvoa_speculative_run(
     ensures buffers { λ r. ⌜ SpeculativeBuffersPromise (now (settings .entry)) (now (list .entry)) start budget window
         (spaces (now (unique .entry)) (now (register .entry)) (now (ram .entry)))
         (spaces (now («unique_labels» .entry)) (now («register_labels» .entry)) (now («ram_labels» .entry)))
+        (spaces (now («unique_counts» .entry)) (now («register_counts» .entry)) (now («ram_counts» .entry)))
         (now (log .entry)) (now (journal .entry)) (now (report .entry))
         (spaces (now (unique .exit)) (now (register .exit)) (now (ram .exit)))
         (spaces (now («unique_labels» .exit)) (now («register_labels» .exit)) (now («ram_labels» .exit)))
+        (spaces (now («unique_counts» .exit)) (now («register_counts» .exit)) (now («ram_counts» .exit)))
         (now (log .exit)) (now (journal .exit)) (now (report .exit)) r ⌝ }
 {
     let fault = of_lengths(settings.len(), report.len());
@@ -297,10 +320,45 @@ pub extern "C" fn undrelvoa_speculative_run(
         unique_labels,
         register_labels,
         ram_labels,
+        unique_counts,
+        register_counts,
+        ram_counts,
         log,
         journal,
     );
     write_report(report, ran);
+    0
+}
+
+#[no_mangle]
+pub extern "C" fn undrelvoa_count_secrets(
+    unique_labels: &[u8],
+    register_labels: &[u8],
+    ram_labels: &[u8],
+    unique_counts: &mut [u64],
+    register_counts: &mut [u64],
+    ram_counts: &mut [u64],
+    report: &mut [u64],
+) -> u64
+    ensures answer { λ r. ⌜ ReportAnswerPromise (now (report .entry)) r ⌝ }
+    ensures buffers { λ r. ⌜ CountingBuffersPromise
+        (spaces (now («unique_labels» .entry)) (now («register_labels» .entry)) (now («ram_labels» .entry)))
+        (spaces (now («unique_counts» .entry)) (now («register_counts» .entry)) (now («ram_counts» .entry))) (now (report .entry))
+        (spaces (now («unique_counts» .exit)) (now («register_counts» .exit)) (now («ram_counts» .exit))) (now (report .exit)) r ⌝ }
+{
+    let fault = of_report(report.len());
+    if fault != 0 {
+        return fault;
+    }
+    let counted = interpreter::count_secrets(
+        unique_labels,
+        register_labels,
+        ram_labels,
+        unique_counts,
+        register_counts,
+        ram_counts,
+    );
+    write_report(report, counted);
     0
 }
 

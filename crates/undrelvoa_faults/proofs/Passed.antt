@@ -10,7 +10,7 @@ use Rattle.arithmetic.specs.Opcodes.{firstInteger, lastInteger, hasPlace}
 use Rattle.arithmetic.specs.Operands.{divides, sizesAgree, Operands}
 use Rattle.integer.proofs.Booleans.{both, passed, one-to-eight}
 use Rattle.operation.specs.Numbers.{reportNumbers}
-use Rattle.undrelvoa_faults.specs.Faults.{noAddress, sizesPresent, valueFault, gatherFault, scatterFault, settingsLength, lengthFault, placeLength, placeFault}
+use Rattle.undrelvoa_faults.specs.Faults.{noAddress, sizesPresent, valueFault, gatherFault, scatterFault, settingsLength, lengthFault, reportFault, placeLength, placeFault}
 
 at-most-8 : (t : Bool) (n : ℕ) → cond t (isSize n) (eqb n 0) ≡ true → n ≤ 8
 at-most-8 true n e = one-to-eight n e .1
@@ -104,8 +104,16 @@ lengths-passed settings report e =
     let v = both (eqb settings settingsLength) (leb reportNumbers report) (not-false (eqb settings settingsLength && leb reportNumbers report) (t .0)) in
     (eqb-true settings settingsLength (v .0), leb-true reportNumbers report (v .1))
 
+-- a count of words that is long enough
+long-enough : (least words : ℕ) → _≡_ {A = ℕ} (cond (not (leb least words)) 11 0) 0 → least ≤ words
+long-enough least words e =
+    let t = passed (not (leb least words)) 11 0 (omega arith) e in
+    leb-true least words (not-false (leb least words) (t .0))
+
+pub report-passed : (report : ℕ) → reportFault report ≡ 0 → reportNumbers ≤ report
+unfolding reportFault
+report-passed report e = long-enough reportNumbers report e
+
 pub place-passed : (place : ℕ) → placeFault place ≡ 0 → placeLength ≤ place
 unfolding placeFault
-place-passed place e =
-    let t = passed (not (leb placeLength place)) 11 0 (omega arith) e in
-    leb-true placeLength place (not-false (leb placeLength place) (t .0))
+place-passed place e = long-enough placeLength place e

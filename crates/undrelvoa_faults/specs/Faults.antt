@@ -48,6 +48,10 @@ settingsLength = 5
 unfoldable pub lengthFault : (settings report : ℕ) → ℕ
 lengthFault settings report = cond (not (eqb settings settingsLength && leb reportNumbers report)) 11 0
 
+-- undrelvoa_count_secrets. All else that can be wrong is an ending of the report.
+unfoldable pub reportFault : (report : ℕ) → ℕ
+reportFault report = cond (not (leb reportNumbers report)) 11 0
+
 -- The number of words of a place: space, offset, number of bytes.
 abbrev pub placeLength : ℕ
 placeLength = 3

@@ -1,6 +1,6 @@
 // What is wrong with a call of the C interface, by its number; 0 where nothing is. Each test is total, so that a new one is one line.
 ghost use mathlib.Core.Path.{_≡_};
-ghost use Rattle.undrelvoa_faults.specs.Faults.{sizesPresent, valueFault, gatherFault, scatterFault, lengthFault, placeFault};
+ghost use Rattle.undrelvoa_faults.specs.Faults.{sizesPresent, valueFault, gatherFault, scatterFault, lengthFault, reportFault, placeFault};
 use arithmetic::opcodes::FIRST_INTEGER;
 use arithmetic::opcodes::LAST_INTEGER;
 use arithmetic::opcodes::has_place;
@@ -69,6 +69,13 @@ pub fn of_lengths(settings: usize, report: usize) -> u64
 {
     let exact = settings == SETTINGS_WORDS;
     pick(!both(exact, REPORT_NUMBERS <= report), 11, 0)
+}
+
+// undrelvoa_count_secrets
+pub fn of_report(report: usize) -> u64
+    ensures { λ r. ⌜ r ≡ reportFault report ⌝ }
+{
+    pick(!(REPORT_NUMBERS <= report), 11, 0)
 }
 
 // undrelvoa_show

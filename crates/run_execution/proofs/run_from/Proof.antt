@@ -6,7 +6,7 @@ use Rattle.operation.specs.declared.layout.Lengths.{Lengths}
 use Rattle.operation.specs.Layout.{operationCount}
 use Rattle.machine.specs.Program.{programOf}
 use Rattle.machine.specs.Memory.{spaces, lengthsOf}
-use Rattle.run_plan.proofs.Places.{of-bytes}
+use Rattle.run_memory.proofs.Spaces.{of-bytes}
 use Rattle.run_execution.proofs.Running.{Going, begun, at-end, at-budget, may-plan, at-stop, at-full, may-log, may-push, may-write, logs-kept, at-exit, at-next}
 use Rattle.operation.proofs.layout.operation_count.Reads as operation-count-reads
 use Rattle.operation.proofs.report.run_report.Reads as run-report-reads

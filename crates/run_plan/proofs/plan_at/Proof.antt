@@ -8,7 +8,8 @@ use Rattle.machine.specs.Program.{programOf}
 use Rattle.machine.specs.Memory.{valueAt}
 use Rattle.machine.specs.Effect.{operationAt}
 use Rattle.machine.proofs.Conditions.{few-operations}
-use Rattle.run_plan.proofs.Places.{of-bytes, placed, movable, addressable, branching, computable, in-words, index-small}
+use Rattle.run_memory.proofs.Spaces.{of-bytes}
+use Rattle.run_plan.proofs.Places.{placed, movable, addressable, branching, computable, in-words, index-small}
 use Rattle.run_plan.proofs.Opcodes.{of-opcode}
 use Rattle.run_plan.proofs.Planning.{planned-access, planned-branch, planned-data}
 use Rattle.run_plan.proofs.plan_at.Statement.{statement}

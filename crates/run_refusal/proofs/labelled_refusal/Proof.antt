@@ -3,7 +3,6 @@ use mathlib.Core.Path.{refl, _∙_}
 use borrow.Author.Needs.{needs}
 use Rattle.run_refusal.proofs.labelled_refusal.Statement.{statement}
 use Rattle.run_refusal.proofs.labelled_refusal.Tie as tie
-use Rattle.run_refusal.proofs.labelled_refusal.Lts as lts
 
 returns : tie.Need-returns
 returns c =

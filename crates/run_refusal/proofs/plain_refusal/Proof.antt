@@ -3,7 +3,6 @@ use mathlib.Core.Path.{refl, _∙_}
 use borrow.Author.Needs.{needs}
 use Rattle.run_refusal.proofs.plain_refusal.Statement.{statement}
 use Rattle.run_refusal.proofs.plain_refusal.Tie as tie
-use Rattle.run_refusal.proofs.plain_refusal.Lts as lts
 
 returns : tie.Need-returns
 returns c = c .refusal .ensures ∙ rw (c .before .lengths-of .ensures) refl

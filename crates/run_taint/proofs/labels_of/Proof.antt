@@ -1,6 +1,6 @@
 -- `run_taint::labels_of` meets its contract.
 use borrow.Author.Needs.{needs}
-use Rattle.run_plan.proofs.Places.{of-bytes}
+use Rattle.run_memory.proofs.Spaces.{of-bytes}
 use Rattle.run_taint.proofs.LabelWords.{word-ordered}
 use Rattle.run_taint.proofs.labels_of.Statement.{statement}
 use Rattle.run_taint.proofs.labels_of.Tie as tie

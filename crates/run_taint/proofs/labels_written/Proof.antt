@@ -4,7 +4,8 @@ use Rattle.arithmetic.specs.Opcodes.{member}
 use Rattle.machine.specs.Effect.{operationAt}
 use Rattle.machine.specs.Conditions.{moving}
 use Rattle.run_plan.proofs.Opcodes.{of-opcode}
-use Rattle.run_plan.proofs.Places.{in-words, of-bytes}
+use Rattle.run_memory.proofs.Spaces.{of-bytes}
+use Rattle.run_plan.proofs.Places.{in-words}
 use Rattle.run_taint.proofs.LabelWords.{place-source, word-early, moves-bytes, some-output, place-moved, word-moved, place-input, flag-small, whole-most, word-whole}
 use borrow.Author.Needs.{needs}
 use Rattle.run_taint.proofs.labels_written.Statement.{statement}

@@ -29,15 +29,15 @@ calls = (
 
 abbrev ran-of : lts.After-write-report-arg calls reads.Pre reads.Post → lts.After-speculative-run calls reads.Pre reads.Post
 ran-of c =
-    let with-log = c .before .before .before .before in
-    let with-labels = with-log .before .before .before .before in
-    let with-ram = with-labels .before .before .before .before in
+    let with-counts = c .before .before .before .before .before .before in
+    let with-labels = with-counts .before .before .before .before .before .before in
+    let with-ram = with-labels .before .before .before .before .before .before in
     with-ram .before .before .before .before .before
 
 abbrev read-of : lts.After-speculative-run calls reads.Pre reads.Post → lts.After-settings-in calls reads.Pre reads.Post
 read-of c =
-    let with-ram-lent = c .before .before .before .before in
-    with-ram-lent .before .before .before .before .before
+    let with-labels-lent = c .before .before .before .before .before in
+    with-labels-lent .before .before .before .before .before .before .before
 
 -- ---- the needs
 
@@ -77,7 +77,16 @@ same-length-8 : tie.Need-same-length-8
 same-length-8 c = ran-of (c .before .before .before) .speculative-run .kept .1 .1 .1 .1 .1 .1 .1 .1 .1 .1 .1 .1 .0
 
 same-length-9 : tie.Need-same-length-9
-same-length-9 c = c .before .before .write-report .kept .0
+same-length-9 c = ran-of (c .before .before .before) .speculative-run .kept .1 .1 .1 .1 .1 .1 .1 .1 .1 .1 .1 .1 .1 .0
+
+same-length-10 : tie.Need-same-length-10
+same-length-10 c = ran-of (c .before .before .before) .speculative-run .kept .1 .1 .1 .1 .1 .1 .1 .1 .1 .1 .1 .1 .1 .1 .0
+
+same-length-11 : tie.Need-same-length-11
+same-length-11 c = ran-of (c .before .before .before) .speculative-run .kept .1 .1 .1 .1 .1 .1 .1 .1 .1 .1 .1 .1 .1 .1 .1 .0
+
+same-length-12 : tie.Need-same-length-12
+same-length-12 c = c .before .before .write-report .kept .0
 
 returns-2 : tie.Need-returns-2
 unfolding after afterSpeculation
@@ -108,4 +117,7 @@ undrelvoa-speculative-run-spec =
     same-length-7
     same-length-8
     same-length-9
+    same-length-10
+    same-length-11
+    same-length-12
     returns-2)
