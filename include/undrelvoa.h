@@ -6,8 +6,8 @@
  *
  * Calls. Every function takes every number; of buffers it asks what the next paragraph says. It answers an
  * undrelvoa_answer: 0 when it has done its work, else what is wrong with the call itself, and then it has
- * changed no buffer. undrelvoa_validate, the runs and the steps write how they ended, an undrelvoa_ending,
- * into a report: they answer 0 also where they refuse to run.
+ * changed no buffer. undrelvoa_validate, the runs, the steps and undrelvoa_count_secrets write how they ended,
+ * an undrelvoa_ending, into a report: they answer 0 also where they refuse to run or to count.
  *
  * Buffers. A buffer is a pointer and the number of its elements. With 0 elements the pointer may be NULL.
  * Else it points to that many elements and is aligned for their type, as C asks: 8 bytes for uint64_t, any
@@ -35,12 +35,12 @@ extern "C" {
  * grows where a call changes, in its parameters or in the words that it takes: a program must then be checked
  * and compiled again, since the linker does not notice. The second grows where a call is added or answers
  * otherwise than before, the third where neither is so. */
-#define UNDRELVOA_VERSION "3.3.1"
-#define UNDRELVOA_VERSION_MAJOR 3
-#define UNDRELVOA_VERSION_MINOR 3
-#define UNDRELVOA_VERSION_PATCH 1
+#define UNDRELVOA_VERSION "4.0.0"
+#define UNDRELVOA_VERSION_MAJOR 4
+#define UNDRELVOA_VERSION_MINOR 0
+#define UNDRELVOA_VERSION_PATCH 0
 
-/* Limits. The verdict and the runs refuse what is beyond them. */
+/* Limits. The verdict, the runs and undrelvoa_count_secrets refuse what is beyond them. */
 #define UNDRELVOA_MAX_OPERATIONS 4096   /* operations of a list */
 #define UNDRELVOA_MAX_SPACE_BYTES 65536 /* bytes of a space */
 #define UNDRELVOA_MAX_SIZE 8            /* bytes of a varnode or an address, and the largest wordsize */
@@ -82,6 +82,14 @@ extern "C" {
 /* The labels of a byte. */
 #define UNDRELVOA_PUBLIC 0
 #define UNDRELVOA_SECRET 1
+
+/* Counts of secret bytes: for each space a word for each block, then the total. The last block may be shorter.
+ * UNDRELVOA_COUNT_WORDS is the number of words that a space of so many bytes needs, also where it has none. Each
+ * space has words of its own, also where nobody reads them: no two of the three buffers overlap. The macro
+ * evaluates its argument more than once. */
+#define UNDRELVOA_BLOCK_BYTES 64
+#define UNDRELVOA_COUNT_WORDS(bytes) \
+    ((size_t)(bytes) / UNDRELVOA_BLOCK_BYTES + ((size_t)(bytes) % UNDRELVOA_BLOCK_BYTES != 0 ? 2 : 1))
 
 /* A log word: the index of the operation that wrote it, and what it shows: the byte offset of LOAD and
  * STORE, or 1 for a CBRANCH taken and 0 for one not taken. The words of a window are marked, by
@@ -165,7 +173,7 @@ enum undrelvoa_opcode {
  * These numbers are endings too, where they mean something else, so an answer is never compared with an
  * undrelvoa_ending. Two are easily confused:
  *   11  UNDRELVOA_ANSWER_LENGTH: settings, report, place or result have the wrong number of words. The
- *       ending UNDRELVOA_LENGTH: list, spaces, labels or journal have a wrong length.
+ *       ending UNDRELVOA_LENGTH: list, spaces, labels, journal or counts have a wrong length.
  *   24  UNDRELVOA_ANSWER_RANGE: the bytes or values given to undrelvoa_gather, undrelvoa_scatter or
  *       undrelvoa_value do not fit. The ending UNDRELVOA_RANGE: a varnode of an operation does not. */
 enum undrelvoa_answer {
@@ -190,8 +198,9 @@ enum undrelvoa_ending {
     UNDRELVOA_BUDGET = 2,   /* the budget is spent: the next operation */
     UNDRELVOA_SETTING = 10, /* byte order, address size, a wordsize or the window out of range: 0 */
     UNDRELVOA_LENGTH = 11,  /* words not a multiple of 5, over 4,096 operations, a space over 65,536
-                             * bytes, other numbers of labels than of bytes, or a journal of fewer words
-                             * than four for each operation of the window: 0 */
+                             * bytes, other numbers of labels than of bytes, a journal of fewer words
+                             * than four for each operation of the window, or counts of fewer words than
+                             * one for each block and one for the total: 0 */
     UNDRELVOA_LABEL = 12,   /* a label that is neither 0 nor 1: 0 */
     /* 21 to 26: the first malformed operation, by the lowest rule that it breaks */
     UNDRELVOA_HEAD = 21,    /* an opcode out of range, or a spare byte of the head that is not 0 */
@@ -311,14 +320,25 @@ uint64_t undrelvoa_step(const uint64_t *settings, size_t settings_len, const uin
  *   unique_labels, register_labels, ram_labels   one byte for each byte of each space, 0 public, 1
  *                secret, read and written
  *   unique_labels_len, register_labels_len, ram_labels_len   their bytes, as many as the space has
+ *   unique_counts, register_counts, ram_counts   the counts of each space, read and written: how many bytes
+ *                of each block are secret, then how many of the space; further words stay as they are
+ *   unique_counts_len, register_counts_len, ram_counts_len   their words, at least UNDRELVOA_COUNT_WORDS
+ *                of the space's bytes
  *   the others   as for undrelvoa_run
  *
- * The endings are those of enum undrelvoa_ending but for 35. After a refusal the labels too are as lent.
+ * The endings are those of enum undrelvoa_ending but for 35. After a refusal the labels and the counts too are
+ * as lent; counts of too few words are 11.
  * LEAK is a secret byte in the pointer of LOAD or STORE, the condition of CBRANCH, input0 of BRANCHIND,
  * CALLIND or RETURN, or the dividend or divisor (input0, input1) of INT_DIV, INT_REM, INT_SDIV or INT_SREM.
  * COPY, LOAD, STORE, PIECE, SUBPIECE, INT_ZEXT and INT_SEXT take the label of each byte along, by significance;
  * zero fill is public, and the fill of INT_SEXT has the label of input0's top byte. All bytes that any other
  * operation writes become secret if a byte that it reads is, else public.
+ *
+ * Each label that changes moves the count of its block and the total by one, up where the byte becomes secret
+ * and down where it becomes public, modulo 2^64; a label written as it was moves nothing. So counts that are
+ * true before a call (equal to a recount of the labels, as undrelvoa_count_secrets fills them) are true after it;
+ * whoever changes labels between two calls fills them again. They may hold anything: then they move by as much,
+ * and nothing else depends on them.
  * Answers 0 when the report is written, or 11.
  */
 uint64_t undrelvoa_labelled_run(const uint64_t *settings, size_t settings_len, const uint64_t *list,
@@ -327,7 +347,10 @@ uint64_t undrelvoa_labelled_run(const uint64_t *settings, size_t settings_len, c
                                 uint8_t *ram, size_t ram_len, uint8_t *unique_labels,
                                 size_t unique_labels_len, uint8_t *register_labels,
                                 size_t register_labels_len, uint8_t *ram_labels,
-                                size_t ram_labels_len, uint64_t *log, size_t log_len,
+                                size_t ram_labels_len, uint64_t *unique_counts,
+                                size_t unique_counts_len, uint64_t *register_counts,
+                                size_t register_counts_len, uint64_t *ram_counts,
+                                size_t ram_counts_len, uint64_t *log, size_t log_len,
                                 uint64_t *report, size_t report_len);
 
 /* The same with a budget of 1. Each call checks the whole list and every label anew. */
@@ -337,7 +360,10 @@ uint64_t undrelvoa_labelled_step(const uint64_t *settings, size_t settings_len, 
                                  uint8_t *ram, size_t ram_len, uint8_t *unique_labels,
                                  size_t unique_labels_len, uint8_t *register_labels,
                                  size_t register_labels_len, uint8_t *ram_labels,
-                                 size_t ram_labels_len, uint64_t *log, size_t log_len,
+                                 size_t ram_labels_len, uint64_t *unique_counts,
+                                 size_t unique_counts_len, uint64_t *register_counts,
+                                 size_t register_counts_len, uint64_t *ram_counts,
+                                 size_t ram_counts_len, uint64_t *log, size_t log_len,
                                  uint64_t *report, size_t report_len);
 
 /* A labelled run that also tries the way not taken, as a processor does that guesses a branch wrongly: the
@@ -351,15 +377,15 @@ uint64_t undrelvoa_labelled_step(const uint64_t *settings, size_t settings_len, 
  *
  * Each CBRANCH executed opens a window, after its log word: the way that it does not take is run until
  * `window` operations are done, or the window closes: at the end of the list, or by EXIT, BOUNDS or ZERO.
- * A CBRANCH in a window follows its condition and opens none. Bytes and labels then become again what they
- * were, and the right way goes on. Operations of a window are not counted and spend no budget. Their log words
+ * A CBRANCH in a window follows its condition and opens none. Bytes, labels and counts then become again what
+ * they were, and the right way goes on. Operations of a window are not counted and spend no budget. Their log words
  * are marked, stay in the log, and are counted in UNDRELVOA_REPORT_LOGGED.
  *
  * In a window, LEAK ends the run as UNDRELVOA_LEAK_AHEAD, and a full log ends it as UNDRELVOA_LOG. Both report
- * the CBRANCH that opened the window, not counted, with value 0; bytes and labels are those before it, and the
- * log words written until then stay, its own too. With a window and a journal in range and any other ending than
- * these two, the report, but for the number of log words, the spaces, the labels and the words that are not marked
- * are those of undrelvoa_labelled_run.
+ * the CBRANCH that opened the window, not counted, with value 0; bytes, labels and counts are those before it, and
+ * the log words written until then stay, its own too. With a window and a journal in range and any other ending
+ * than these two, the report, but for the number of log words, the spaces, the labels, the counts and the words that
+ * are not marked are those of undrelvoa_labelled_run.
  *
  * A window over UNDRELVOA_MAX_WINDOW is 10, and a journal of too few words 11. After a refusal the journal too
  * is as lent.
@@ -374,9 +400,37 @@ uint64_t undrelvoa_speculative_run(const uint64_t *settings, size_t settings_len
                                    size_t register_len, uint8_t *ram, size_t ram_len,
                                    uint8_t *unique_labels, size_t unique_labels_len,
                                    uint8_t *register_labels, size_t register_labels_len,
-                                   uint8_t *ram_labels, size_t ram_labels_len, uint64_t *log,
-                                   size_t log_len, uint64_t *journal, size_t journal_len,
-                                   uint64_t *report, size_t report_len);
+                                   uint8_t *ram_labels, size_t ram_labels_len, uint64_t *unique_counts,
+                                   size_t unique_counts_len, uint64_t *register_counts,
+                                   size_t register_counts_len, uint64_t *ram_counts,
+                                   size_t ram_counts_len, uint64_t *log, size_t log_len,
+                                   uint64_t *journal, size_t journal_len, uint64_t *report,
+                                   size_t report_len);
+
+/* Counts the secret bytes of each block and of each space: fills the counts that the labelled runs and steps and
+ * the speculative run then keep.
+ *
+ *   unique_labels, register_labels, ram_labels   one byte for each byte of each space, 0 public, 1 secret,
+ *                only read
+ *   unique_labels_len, register_labels_len, ram_labels_len   their bytes, at most 65,536 each
+ *   unique_counts, register_counts, ram_counts   their first words become the counts, one for each block, then
+ *                the total; further words stay as they are
+ *   unique_counts_len, register_counts_len, ram_counts_len   their words, at least UNDRELVOA_COUNT_WORDS
+ *                of the number of labels
+ *   report       its first five words become the report; further words stay as they are
+ *   report_len   words of report, at least UNDRELVOA_REPORT_WORDS
+ *
+ * The ending is 0; or 11 for labels over 65,536 or counts of too few words; or else 12 for a label that is neither
+ * 0 nor 1. The other four are 0. After 11 and 12 the counts are as lent.
+ * Answers 0 when the report is written, or 11.
+ */
+uint64_t undrelvoa_count_secrets(const uint8_t *unique_labels, size_t unique_labels_len,
+                                 const uint8_t *register_labels, size_t register_labels_len,
+                                 const uint8_t *ram_labels, size_t ram_labels_len,
+                                 uint64_t *unique_counts, size_t unique_counts_len,
+                                 uint64_t *register_counts, size_t register_counts_len,
+                                 uint64_t *ram_counts, size_t ram_counts_len, uint64_t *report,
+                                 size_t report_len);
 
 /* Where the bytes of a varnode lie.
  *

@@ -12,11 +12,12 @@ use std::process::Command;
 const LOOP: &str = "run_labelled::run_any";
 
 /// The functions of the archive beside those of the C interface. `value` alone is called by an operation; the C interface calls
-/// it too.
-const CALLED: [&str; 5] = [
+/// it too. `run` and `labelled_run` are called once a run or step.
+const CALLED: [&str; 6] = [
     LOOP,
     "arithmetic::value",
     "run_refusal::labelled_refusal",
+    "runs::labelled_run",
     "runs::run",
     "validation::first_malformed",
 ];

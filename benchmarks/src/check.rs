@@ -1,33 +1,53 @@
 //! Checks that the two interpreters do the same: the loops, shorter, and every integer operation. So does
 //! the speculative run without a window, and with one but for the words of its windows.
 
-use crate::library::{Labels, Program, State, LARGEST_WINDOW};
-use crate::loops::{branching_loops, loops, packing_loops, repeated_operations, straight};
+use crate::library::{recount, Counts, Labels, Program, State, LARGEST_WINDOW};
+use crate::loops::{
+    branching_loops, loops, marking_loops, packing_loops, repeated_operations, straight, Loop,
+};
 use crate::{run, Kind};
 
 const OPERATIONS: u32 = 1_000;
 
-/// Runs a program on both, and with public labels. Gives back the report.
+/// Runs a program on both, and with public labels, which stay so. Gives back the report.
 fn check(program: &Program, budget: u32, state: &State) -> [u64; 5] {
-    let mut labels = Labels::public(state);
+    let (report, labels) = check_with(program, budget, state, Labels::public(state));
+    assert_eq!(labels, Labels::public(state));
+    report
+}
+
+/// Runs a loop on both, with its labels. Gives back the report, and the labels after it.
+fn check_loop(timed: &Loop, budget: u32) -> ([u64; 5], Labels) {
+    check_with(&timed.program, budget, &timed.state, timed.labels())
+}
+
+/// Runs a program on both, and with labels. Gives back the report, and the labels after it.
+fn check_with(program: &Program, budget: u32, state: &State, labels: Labels) -> ([u64; 5], Labels) {
     let kinds = [Kind::Rust, Kind::Plain, Kind::Labelled, Kind::Speculative(0)];
     let [rust, plain, labelled, speculative] = kinds.map(|kind| {
-        let mut state = state.clone();
-        (run(kind, program, budget, &mut state, &mut labels), state)
+        let (mut state, mut labels) = (state.clone(), labels.clone());
+        (run(kind, program, budget, &mut state, &mut labels), state, labels)
     });
-    assert_eq!(rust, plain, "{:x?}", program.list);
-    assert_eq!(labelled, plain, "{:x?}", program.list);
-    assert_eq!(speculative, plain, "{:x?}", program.list);
-    assert_eq!(labels, Labels::public(state));
-    plain.0
+    assert_eq!((&rust.0, &rust.1), (&plain.0, &plain.1), "{:x?}", program.list);
+    assert_eq!((&labelled.0, &labelled.1), (&plain.0, &plain.1), "{:x?}", program.list);
+    assert_eq!(speculative, labelled, "{:x?}", program.list);
+    let (report, _, labels) = labelled;
+    let Labels { unique, register, ram, counts } = &labels;
+    let [unique, register, ram] = [unique, register, ram].map(|labels| recount(labels));
+    assert_eq!(*counts, Counts { unique, register, ram });
+    (report, labels)
 }
 
 #[test]
 fn loops_agree() {
-    let groups = [loops(OPERATIONS), packing_loops(OPERATIONS), branching_loops(OPERATIONS)];
+    let groups = [
+        loops(OPERATIONS),
+        packing_loops(OPERATIONS),
+        marking_loops(OPERATIONS),
+        branching_loops(OPERATIONS),
+    ];
     for timed in groups.into_iter().flatten() {
-        let [ending, _, executed, log_words, value] =
-            check(&timed.program, OPERATIONS, &timed.state);
+        let ([ending, _, executed, log_words, value], _) = check_loop(&timed, OPERATIONS);
         assert_eq!([ending, executed, value], [2, u64::from(OPERATIONS), 0], "{}", timed.name);
         assert!(log_words > 0, "{} wrote no log word", timed.name);
     }
@@ -36,9 +56,25 @@ fn loops_agree() {
 #[test]
 fn repeated_operations_agree() {
     for timed in repeated_operations(OPERATIONS) {
-        let [ending, _, executed, ..] = check(&timed.program, OPERATIONS, &timed.state);
+        let ([ending, _, executed, ..], _) = check_loop(&timed, OPERATIONS);
         assert_eq!([ending, executed], [2, u64::from(OPERATIONS)], "{}", timed.name);
     }
+}
+
+#[test]
+fn counts_move_where_secret_bytes_are() {
+    let total = |labels: &Labels| {
+        let Counts { unique, register, ram } = &labels.counts;
+        [unique, register, ram].iter().filter_map(|words| words.last()).sum::<u64>()
+    };
+    let mut moving = 0;
+    for timed in repeated_operations(4).into_iter().chain(marking_loops(4)) {
+        let totals = [0, 1, 2].map(|budget| total(&check_loop(&timed, budget).1));
+        let secret = timed.secret_bytes as u64;
+        assert_eq!(totals, [secret, 2 * secret, secret], "{}", timed.name);
+        moving += u64::from(secret > 0);
+    }
+    assert!(moving > 0, "no count was to move");
 }
 
 /// The words that a run wrote and that no window did.

@@ -6,7 +6,9 @@ use std::hint::black_box;
 use std::process::Command;
 
 use crate::library::{Labels, Program, State};
-use crate::loops::{branching_loops, loops, packing_loops, repeated_operations, straight, Loop};
+use crate::loops::{
+    branching_loops, loops, marking_loops, packing_loops, repeated_operations, straight, Loop,
+};
 use crate::{run, Kind};
 
 /// Two budgets: the difference of their counts has no part of the call's own cost.
@@ -22,7 +24,8 @@ const LOG_WORDS_PER_OPERATION: u32 = 20;
 pub fn print() -> Result<(), String> {
     println!("instructions an operation (callgrind)");
     println!("loop      size  order    plain   Rust  labelled");
-    for (group, loops) in [("loop", loops(0)), ("packing", packing_loops(0))] {
+    let groups = [("loop", loops(0)), ("packing", packing_loops(0)), ("marking", marking_loops(0))];
+    for (group, loops) in groups {
         for (number, timed) in loops.iter().enumerate() {
             print!("{:<8}  {:>4}  {:<6}", timed.name, timed.size, timed.order_name());
             for (kind, width) in [("plain", 7), ("rust", 7), ("labelled", 10)] {
@@ -33,9 +36,9 @@ pub fn print() -> Result<(), String> {
             println!();
         }
     }
-    println!("operation     order    plain  labelled");
+    println!("operation          order    plain  labelled");
     for (number, timed) in repeated_operations(0).iter().enumerate() {
-        print!("{:<12}  {:<6}", timed.name, timed.order_name());
+        print!("{:<17}  {:<6}", timed.name, timed.order_name());
         for (kind, width) in [("plain", 7), ("labelled", 10)] {
             let count =
                 |budget: u32| counted(&["alone", kind, &number.to_string(), &budget.to_string()]);
@@ -115,6 +118,10 @@ pub fn once(words: &[&str]) -> Result<(), String> {
             let budget = number(budget)?;
             run_loop(kind, packing_loops(budget), place, budget)?;
         }
+        ["marking", kind, place, budget] => {
+            let budget = number(budget)?;
+            run_loop(kind, marking_loops(budget), place, budget)?;
+        }
         ["alone", kind, place, budget] => {
             let budget = number(budget)?;
             run_loop(kind, repeated_operations(budget), place, budget)?;
@@ -126,7 +133,8 @@ pub fn once(words: &[&str]) -> Result<(), String> {
         ["straight", kind, operations, ram_len] => {
             let (program, state) =
                 straight(number(operations)? as usize, number(ram_len)? as usize);
-            run_once(kind_of(kind)?, &program, 0, state);
+            let labels = Labels::public(&state);
+            run_once(kind_of(kind)?, &program, 0, state, labels);
         }
         _ => return Err(format!("{words:?} is no run")),
     }
@@ -156,12 +164,12 @@ fn run_loop(kind: &str, mut loops: Vec<Loop>, place: &str, budget: u32) -> Resul
         return Err(format!("there is no loop {place}"));
     }
     let timed = loops.swap_remove(place);
-    run_once(kind_of(kind)?, &timed.program, budget, timed.state);
+    let labels = timed.labels();
+    run_once(kind_of(kind)?, &timed.program, budget, timed.state, labels);
     Ok(())
 }
 
-fn run_once(kind: Kind, program: &Program, budget: u32, mut state: State) {
-    let mut labels = Labels::public(&state);
+fn run_once(kind: Kind, program: &Program, budget: u32, mut state: State, mut labels: Labels) {
     black_box(counted_run(|| run(kind, program, budget, &mut state, &mut labels)));
 }
 

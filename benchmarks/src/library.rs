@@ -31,23 +31,44 @@ pub struct State {
     pub journal: Vec<u64>,
 }
 
-/// One label for each byte of each space.
+/// One label for each byte of each space, and the counts of the secret ones.
 #[derive(Clone, PartialEq, Eq, Debug)]
 pub struct Labels {
     pub unique: Vec<u8>,
     pub register: Vec<u8>,
     pub ram: Vec<u8>,
+    pub counts: Counts,
+}
+
+/// For each space a word for each block of 64 bytes, then the total.
+#[derive(Clone, PartialEq, Eq, Debug)]
+pub struct Counts {
+    pub unique: Vec<u64>,
+    pub register: Vec<u64>,
+    pub ram: Vec<u64>,
 }
 
 impl Labels {
     /// Public labels only.
     pub fn public(state: &State) -> Labels {
-        Labels {
-            unique: vec![0; state.unique.len()],
-            register: vec![0; state.register.len()],
-            ram: vec![0; state.ram.len()],
-        }
+        Labels::with_secret_register(state, 0)
     }
+
+    /// Public labels, but for so many bytes of register from the first on.
+    pub fn with_secret_register(state: &State, bytes: usize) -> Labels {
+        let [unique, mut register, ram] =
+            [&state.unique, &state.register, &state.ram].map(|space| vec![0; space.len()]);
+        register[..bytes].fill(1);
+        let counts =
+            Counts { unique: recount(&unique), register: recount(&register), ram: recount(&ram) };
+        Labels { unique, register, ram, counts }
+    }
+}
+
+/// The counts of a space with these labels.
+pub fn recount(labels: &[u8]) -> Vec<u64> {
+    let secret = |labels: &[u8]| labels.iter().map(|&label| u64::from(label)).sum();
+    labels.chunks(64).map(secret).chain([secret(labels)]).collect()
 }
 
 /// The words of the settings. Pointers count bytes, as those of the plain interpreter do.
@@ -116,6 +137,12 @@ pub fn labelled_run(
             labels.register.len(),
             labels.ram.as_mut_ptr(),
             labels.ram.len(),
+            labels.counts.unique.as_mut_ptr(),
+            labels.counts.unique.len(),
+            labels.counts.register.as_mut_ptr(),
+            labels.counts.register.len(),
+            labels.counts.ram.as_mut_ptr(),
+            labels.counts.ram.len(),
             state.log.as_mut_ptr(),
             state.log.len(),
             report.as_mut_ptr(),
@@ -159,6 +186,12 @@ pub fn speculative_run(
             labels.register.len(),
             labels.ram.as_mut_ptr(),
             labels.ram.len(),
+            labels.counts.unique.as_mut_ptr(),
+            labels.counts.unique.len(),
+            labels.counts.register.as_mut_ptr(),
+            labels.counts.register.len(),
+            labels.counts.ram.as_mut_ptr(),
+            labels.counts.ram.len(),
             state.log.as_mut_ptr(),
             state.log.len(),
             state.journal.as_mut_ptr(),

@@ -1,6 +1,6 @@
 //! The loops that are timed. They go on until the budget ends them.
 
-use crate::library::{Program, State, JOURNAL_WORDS};
+use crate::library::{Labels, Program, State, JOURNAL_WORDS};
 
 /// A program and what it starts with.
 pub struct Loop {
@@ -10,9 +10,16 @@ pub struct Loop {
     pub size: u64,
     pub program: Program,
     pub state: State,
+    /// How many bytes of register are secret, from the first on.
+    pub secret_bytes: usize,
 }
 
 impl Loop {
+    /// The labels that it starts with.
+    pub fn labels(&self) -> Labels {
+        Labels::with_secret_register(&self.state, self.secret_bytes)
+    }
+
     pub fn order_name(&self) -> &'static str {
         if self.program.order == BIG {
             "big"
@@ -49,6 +56,11 @@ pub fn branching_loops(log_words: u32) -> Vec<Loop> {
 pub fn packing_loops(operations: u32) -> Vec<Loop> {
     let sizes_and_orders = SIZES_AND_ORDERS.into_iter().filter(|(size, _)| size % 2 == 0);
     sizes_and_orders.map(|(size, order)| packing_loop(operations, size, order)).collect()
+}
+
+/// The marking loop, with room in the log for this many operations.
+pub fn marking_loops(operations: u32) -> Vec<Loop> {
+    SIZES_AND_ORDERS.map(|(size, order)| marking_loop(operations, size, order)).into()
 }
 
 /// A distance of a branch.
@@ -93,7 +105,7 @@ fn counting_loop(operations: u32, size: u64, order: u64) -> Loop {
         [head(4, &[ABSENT, DISTANCE]), 0, back(4), 0, 0],
     ];
     let program = Program { order, address_size: size, list: list.concat() };
-    Loop { name: "counting", size, program, state: state(operations, 0) }
+    Loop { name: "counting", size, program, state: state(operations, 0), secret_bytes: 0 }
 }
 
 /// Copies the lower half of ram to the upper half, word by word through two pointers, again and
@@ -125,7 +137,8 @@ fn copying_loop(operations: u32, size: u64, order: u64) -> Loop {
         [head(4, &[ABSENT, DISTANCE]), 0, back(8), 0, 0],
     ];
     let program = Program { order, address_size: size, list: list.concat() };
-    Loop { name: "copying", size, program, state: state(operations, 2 * half as usize) }
+    let state = state(operations, 2 * half as usize);
+    Loop { name: "copying", size, program, state, secret_bytes: 0 }
 }
 
 /// Takes a word apart, extends its halves and exchanges them: six operations a round, of which five move
@@ -151,7 +164,29 @@ fn packing_loop(operations: u32, size: u64, order: u64) -> Loop {
     let program = Program { order, address_size: size, list: list.concat() };
     let mut state = state(operations, 0);
     state.register[..8].copy_from_slice(&[0x81, 2, 3, 0x84, 5, 6, 7, 8]);
-    Loop { name: "packing", size, program, state }
+    Loop { name: "packing", size, program, state, secret_bytes: 0 }
+}
+
+/// Makes a word secret and public again: three operations a round, of which two change each label of what they write,
+/// and so move the counts.
+fn marking_loop(operations: u32, size: u64, order: u64) -> Loop {
+    let word = (3, size);
+    let list = [
+        // COPY: the word becomes secret.
+        [head(1, &[word, word]), 8, 0, 0, 0],
+        // COPY: it becomes public.
+        [head(1, &[word, (1, size)]), 8, 0, 0, 0],
+        // CBRANCH: the next round.
+        [head(5, &[ABSENT, DISTANCE, ALWAYS]), 0, back(2), 1, 0],
+    ];
+    let program = Program { order, address_size: size, list: list.concat() };
+    Loop {
+        name: "marking",
+        size,
+        program,
+        state: state(operations, 0),
+        secret_bytes: size as usize,
+    }
 }
 
 /// Counts, and adds every other count to a sum: a round has four or five operations, of which two are
@@ -178,7 +213,7 @@ fn branching_loop(log_words: u32, size: u64, order: u64) -> Loop {
         [head(4, &[ABSENT, DISTANCE]), 0, back(5), 0, 0],
     ];
     let program = Program { order, address_size: size, list: list.concat() };
-    Loop { name: "branching", size, program, state: state(log_words, 0) }
+    Loop { name: "branching", size, program, state: state(log_words, 0), secret_bytes: 0 }
 }
 
 fn state(operations: u32, ram_len: usize) -> State {
@@ -191,27 +226,41 @@ fn state(operations: u32, ram_len: usize) -> State {
     }
 }
 
-/// Lists of 4,000 times the same operation on 8 bytes: each that moves bytes, and two that compute. They have
-/// room in the log for this many operations.
+/// Lists of 4,000 times the same operation on 8 bytes: each that moves bytes, and two that compute. Some have it in turn
+/// on secret and on public bytes, so that each changes 8 labels of what it writes, or one. They have room in the log for
+/// this many operations.
 pub fn repeated_operations(operations: u32) -> Vec<Loop> {
     let (word, half, constant) = ((3, 8), (3, 4), (1, 8));
-    let named = [
-        ("COPY", [head(1, &[word, word]), 8, 0, 0, 0]),
-        ("LOAD", [head(2, &[word, SPACE, constant]), 8, RAM, 0, 0]),
-        ("STORE", [head(3, &[ABSENT, SPACE, constant, word]), 0, RAM, 0, 0]),
-        ("PIECE", [head(10, &[word, half, half]), 8, 0, 4, 0]),
-        ("SUBPIECE", [head(11, &[half, word, COUNT]), 8, 0, 1, 0]),
-        ("INT_ZEXT", [head(19, &[word, half]), 8, 0, 0, 0]),
-        ("INT_SEXT", [head(20, &[word, half]), 8, 0, 0, 0]),
-        ("INT_ADD", [head(21, &[word, word, word]), 8, 0, 0, 0]),
-        ("INT_NOTEQUAL", [head(14, &[CONDITION, word, word]), 0, 0, 8, 0]),
+    let copy = |from| [head(1, &[word, word]), 8, from, 0, 0];
+    let store = |from| [head(3, &[ABSENT, SPACE, constant, word]), 0, RAM, 0, from];
+    let add = |from| [head(21, &[word, word, word]), 8, from, from, 0];
+    // What stands at 16 is public.
+    let lists = [
+        ("COPY", vec![copy(0)], 0),
+        ("LOAD", vec![[head(2, &[word, SPACE, constant]), 8, RAM, 0, 0]], 0),
+        ("STORE", vec![store(0)], 0),
+        ("PIECE", vec![[head(10, &[word, half, half]), 8, 0, 4, 0]], 0),
+        ("SUBPIECE", vec![[head(11, &[half, word, COUNT]), 8, 0, 1, 0]], 0),
+        ("INT_ZEXT", vec![[head(19, &[word, half]), 8, 0, 0, 0]], 0),
+        ("INT_SEXT", vec![[head(20, &[word, half]), 8, 0, 0, 0]], 0),
+        ("INT_ADD", vec![add(0)], 0),
+        ("INT_NOTEQUAL", vec![[head(14, &[CONDITION, word, word]), 0, 0, 8, 0]], 0),
+        ("COPY, 1 label", vec![copy(0), copy(16)], 1),
+        ("COPY, 8 labels", vec![copy(0), copy(16)], 8),
+        ("STORE, 8 labels", vec![store(0), store(16)], 8),
+        ("INT_ADD, 8 labels", vec![add(0), add(16)], 8),
     ];
-    let repeated = |(name, operation): (&'static str, [u64; 5]), order| {
-        let list = vec![operation; 4_000].concat();
-        let program = Program { order, address_size: 8, list };
-        Loop { name, size: 8, program, state: state(operations, 8) }
+    let in_both_orders = |(name, by_turns, secret_bytes): (_, Vec<[u64; 5]>, _)| {
+        let list = by_turns.repeat(4_000 / by_turns.len()).concat();
+        [LITTLE, BIG].map(|order| Loop {
+            name,
+            size: 8,
+            program: Program { order, address_size: 8, list: list.clone() },
+            state: state(operations, 8),
+            secret_bytes,
+        })
     };
-    named.into_iter().flat_map(|named| [LITTLE, BIG].map(|order| repeated(named, order))).collect()
+    lists.into_iter().flat_map(in_both_orders).collect()
 }
 
 /// A list of so many INT_ADD operations, and ram of so many bytes.

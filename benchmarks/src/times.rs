@@ -3,8 +3,8 @@
 use std::hint::black_box;
 use std::time::{Duration, Instant};
 
-use crate::library::{Labels, LARGEST_WINDOW};
-use crate::loops::{branching_loops, loops, packing_loops, Loop};
+use crate::library::LARGEST_WINDOW;
+use crate::loops::{branching_loops, loops, marking_loops, packing_loops, Loop};
 use crate::{run, Kind};
 
 const OPERATIONS: u32 = 1_000_000;
@@ -35,6 +35,7 @@ fn print_loops() {
     let [mean, most] = mean_and_most(rows.iter().map(|(_, times)| times.labelled_by_plain()));
     println!("labelled / plain: mean {mean:.2}, at most {most:.2}");
     print_rows(&time_each(packing_loops(OPERATIONS)));
+    print_rows(&time_each(marking_loops(OPERATIONS)));
 }
 
 fn print_rows(rows: &[(Loop, Times)]) {
@@ -132,7 +133,7 @@ fn time_windows(timed: Loop) -> (Loop, [f64; 3]) {
 /// The time of one run on a fresh copy of the state, which is not part of the time.
 fn time(kind: Kind, timed: &Loop, operations: u32) -> Duration {
     let mut state = timed.state.clone();
-    let mut labels = Labels::public(&state);
+    let mut labels = timed.labels();
     // Touches every page of the log, so that the run does not wait for the system to give it.
     state.log.fill(1);
     let started = Instant::now();

@@ -1,6 +1,6 @@
 /* Says of four stubs whether they may be released: only one whose labelled run comes to its end. A run is made in
  * slices, as by a desk that wants to look at the clock in between; each call checks list and labels anew, so true slices
- * are longer. */
+ * are longer. How many bytes are secret is counted once, before the first slice: each slice keeps the counts. */
 #include "undrelvoa.h"
 
 #include <inttypes.h>
@@ -8,6 +8,7 @@
 #include <stdio.h>
 
 enum { SPACE_BYTES = 16, LOG_WORDS = 4, WORDS = 3 * UNDRELVOA_OPERATION_WORDS, SLICE = 2, MOST_SLICES = 100 };
+enum { COUNT_WORDS = UNDRELVOA_COUNT_WORDS(SPACE_BYTES), TOTAL = COUNT_WORDS - 1 };
 
 #define COUNT(array) (sizeof(array) / sizeof((array)[0]))
 #define REGISTER(size) UNDRELVOA_DESCRIPTOR(UNDRELVOA_SPACE_REGISTER, size)
@@ -56,11 +57,19 @@ static void list_of(const struct stub *stub, uint64_t *list) {
     }
 }
 
+static int is_refused(uint64_t answer) {
+    if (answer != UNDRELVOA_ANSWER_DONE) {
+        fprintf(stderr, "the call was refused: %" PRIu64 "\n", answer);
+    }
+    return answer != UNDRELVOA_ANSWER_DONE;
+}
+
 /* Runs a stub in slices of two operations, prints how it ended, and answers whether it may be released. */
 static int check(const struct stub *stub) {
     const uint64_t settings[] = {UNDRELVOA_LITTLE, 4, 1, 1, 1}; /* 4 bytes of an address; each wordsize 1 */
     uint8_t registers[SPACE_BYTES] = {0}, ram[SPACE_BYTES] = {0};
     uint8_t register_labels[SPACE_BYTES] = {0}, ram_labels[SPACE_BYTES];
+    uint64_t unique_counts[UNDRELVOA_COUNT_WORDS(0)], register_counts[COUNT_WORDS], ram_counts[COUNT_WORDS];
     uint64_t list[WORDS], log[LOG_WORDS], report[UNDRELVOA_REPORT_WORDS];
     uint64_t start = 0, executed = 0, logged = 0, ending = UNDRELVOA_BUDGET;
     size_t i;
@@ -72,14 +81,22 @@ static int check(const struct stub *stub) {
     for (i = 0; i < SPACE_BYTES; i++) {
         ram_labels[i] = UNDRELVOA_SECRET;
     }
+    if (is_refused(undrelvoa_count_secrets(NULL, 0, register_labels, SPACE_BYTES, ram_labels, SPACE_BYTES,
+                                           unique_counts, COUNT(unique_counts), register_counts, COUNT_WORDS,
+                                           ram_counts, COUNT_WORDS, report, UNDRELVOA_REPORT_WORDS))
+        || report[UNDRELVOA_REPORT_ENDING] != UNDRELVOA_END) {
+        return 0;
+    }
     for (slices = 0; ending == UNDRELVOA_BUDGET && slices < MOST_SLICES; slices++) {
-        /* the unique space has no bytes here, so its buffers are NULL; each slice writes behind the log words of the last */
+        /* the unique space has no bytes here, so its buffers are NULL, but for its total; each slice writes behind the log
+         * words of the last */
         uint64_t answer = undrelvoa_labelled_run(settings, COUNT(settings), list, WORDS, start, SLICE,
                                                  NULL, 0, registers, SPACE_BYTES, ram, SPACE_BYTES,
                                                  NULL, 0, register_labels, SPACE_BYTES, ram_labels, SPACE_BYTES,
+                                                 unique_counts, COUNT(unique_counts), register_counts, COUNT_WORDS,
+                                                 ram_counts, COUNT_WORDS,
                                                  log + logged, LOG_WORDS - (size_t)logged, report, UNDRELVOA_REPORT_WORDS);
-        if (answer != UNDRELVOA_ANSWER_DONE) {
-            fprintf(stderr, "the call was refused: %" PRIu64 "\n", answer);
+        if (is_refused(answer)) {
             return 0;
         }
         ending = report[UNDRELVOA_REPORT_ENDING];
@@ -89,6 +106,7 @@ static int check(const struct stub *stub) {
     }
     printf("%s: %s (%" PRIu64 ") at operation %" PRIu64 ", %" PRIu64 " executed\n", stub->name, name_of(ending), ending,
            start, executed);
+    printf("  secret bytes: %" PRIu64 " of register, %" PRIu64 " of ram\n", register_counts[TOTAL], ram_counts[TOTAL]);
     for (i = 0; i < logged; i++) {
         printf("  operation %" PRIu64 " shows the offset %" PRIu64 "\n", UNDRELVOA_LOG_INDEX(log[i]), UNDRELVOA_LOG_SHOWN(log[i]));
     }

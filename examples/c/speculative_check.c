@@ -62,6 +62,8 @@ static int check(const struct stub *stub, uint64_t window) {
     const uint64_t settings[] = {UNDRELVOA_LITTLE, 1, 1, 1, 1}; /* 1 byte of an address; each wordsize 1 */
     uint8_t registers[REGISTER_BYTES] = {INDEX}, ram[RAM_BYTES];
     uint8_t register_labels[REGISTER_BYTES] = {UNDRELVOA_PUBLIC}, ram_labels[RAM_BYTES];
+    uint64_t unique_counts[UNDRELVOA_COUNT_WORDS(0)] = {0}, register_counts[UNDRELVOA_COUNT_WORDS(REGISTER_BYTES)] = {0};
+    uint64_t ram_counts[UNDRELVOA_COUNT_WORDS(RAM_BYTES)] = {0};
     uint64_t log[LOG_WORDS], journal[JOURNAL_WORDS], report[UNDRELVOA_REPORT_WORDS];
     uint64_t answer, ending;
     uint8_t i;
@@ -70,10 +72,13 @@ static int check(const struct stub *stub, uint64_t window) {
         ram[i] = i ^ (TABLE_BYTES - 1);
         ram_labels[i] = i < TABLE_BYTES ? UNDRELVOA_PUBLIC : UNDRELVOA_SECRET;
     }
-    /* the unique space has no bytes here, so its buffers are NULL; what the journal holds does not matter */
+    /* the unique space has no bytes here, so its buffers are NULL, but for its total; what journal and counts hold does
+     * not matter */
     answer = undrelvoa_speculative_run(settings, COUNT(settings), stub->list, stub->words, 0, BUDGET, window,
                                        NULL, 0, registers, REGISTER_BYTES, ram, RAM_BYTES,
                                        NULL, 0, register_labels, REGISTER_BYTES, ram_labels, RAM_BYTES,
+                                       unique_counts, COUNT(unique_counts), register_counts, COUNT(register_counts),
+                                       ram_counts, COUNT(ram_counts),
                                        log, LOG_WORDS, journal, JOURNAL_WORDS, report, UNDRELVOA_REPORT_WORDS);
     if (answer != UNDRELVOA_ANSWER_DONE) {
         fprintf(stderr, "the call was refused: %" PRIu64 "\n", answer);

@@ -6,7 +6,7 @@
 #include <stddef.h>
 #include <stdio.h>
 
-enum { SPACE_BYTES = 16, LOG_WORDS = 4 };
+enum { SPACE_BYTES = 16, LOG_WORDS = 4, COUNT_WORDS = UNDRELVOA_COUNT_WORDS(SPACE_BYTES) };
 
 #define COUNT(array) (sizeof(array) / sizeof((array)[0]))
 #define REGISTER(size) UNDRELVOA_DESCRIPTOR(UNDRELVOA_SPACE_REGISTER, size)
@@ -36,13 +36,16 @@ int main(void) {
     const uint64_t settings[] = {UNDRELVOA_LITTLE, 4, 1, 1, 1}; /* 4 bytes of an address; each wordsize 1 */
     uint8_t unique[SPACE_BYTES] = {0}, registers[SPACE_BYTES] = {0x0d}, ram[SPACE_BYTES] = {0};
     uint8_t unique_labels[SPACE_BYTES] = {0}, register_labels[SPACE_BYTES] = {0}, ram_labels[SPACE_BYTES] = {0};
+    uint64_t unique_counts[COUNT_WORDS] = {0}, register_counts[COUNT_WORDS] = {0}, ram_counts[COUNT_WORDS] = {0};
     uint64_t log[LOG_WORDS], report[UNDRELVOA_REPORT_WORDS], answer, i;
     ram[5] = 0x5a;
     ram_labels[5] = UNDRELVOA_SECRET;
 
+    /* nobody looks at the counts of secret bytes here, so they may start with anything */
     answer = undrelvoa_labelled_run(settings, COUNT(settings), list, COUNT(list), 0, 100,
                                     unique, SPACE_BYTES, registers, SPACE_BYTES, ram, SPACE_BYTES,
                                     unique_labels, SPACE_BYTES, register_labels, SPACE_BYTES, ram_labels, SPACE_BYTES,
+                                    unique_counts, COUNT_WORDS, register_counts, COUNT_WORDS, ram_counts, COUNT_WORDS,
                                     log, LOG_WORDS, report, UNDRELVOA_REPORT_WORDS);
     if (answer != UNDRELVOA_ANSWER_DONE) {
         fprintf(stderr, "the call was refused: %" PRIu64 "\n", answer);

@@ -1,12 +1,13 @@
 //! Says of four stubs whether they may be released: only one whose labelled run comes to its end. A run is made in
-//! slices, as by a desk that wants to look at the clock in between.
+//! slices, as by a desk that wants to look at the clock in between. How many bytes are secret is counted once, before the
+//! first slice: each slice keeps the counts.
 
 #[allow(dead_code)] // what the other examples use
 mod undrelvoa;
 
 use undrelvoa::{
-    labelled_run, operation, Settings, Spaces, Varnode, BOUNDS, BUDGET, CONSTANT, COPY, END, EXIT,
-    INT_XOR, LEAK, LITTLE, LOAD, PUBLIC, RAM, REGISTER, SECRET, SIZE,
+    labelled_run, operation, Counts, Settings, Spaces, Varnode, BOUNDS, BUDGET, CONSTANT, COPY,
+    END, EXIT, INT_XOR, LEAK, LITTLE, LOAD, PUBLIC, RAM, REGISTER, SECRET, SIZE,
 };
 
 /// Operations of a slice. Each call checks list and labels anew, so true slices are longer.
@@ -61,6 +62,7 @@ fn check(stub: &Stub) -> bool {
     let mut labels = Spaces { unique: vec![], register: vec![PUBLIC; 16], ram: vec![SECRET; 16] };
     memory.register[0] = stub.index;
     labels.register[0] = stub.index_label;
+    let mut counts = Counts::of(&labels);
     let mut log = [0; 4];
     let (mut start, mut executed, mut logged, mut ending) = (0, 0, 0, BUDGET);
     for _ in 0..MOST_SLICES {
@@ -72,6 +74,7 @@ fn check(stub: &Stub) -> bool {
             SLICE,
             &mut memory,
             &mut labels,
+            &mut counts,
             &mut log[logged..],
         );
         start = report.index;
@@ -87,6 +90,8 @@ fn check(stub: &Stub) -> bool {
         stub.name,
         name_of(ending)
     );
+    let [_, register, ram] = counts.totals();
+    println!("  secret bytes: {register} of register, {ram} of ram");
     for word in &log[..logged] {
         println!("  operation {} shows the offset {}", word >> 32, word & 0xffff_ffff);
     }

@@ -7,9 +7,9 @@
 mod undrelvoa;
 
 use undrelvoa::{
-    operation, speculative_run, Settings, Spaces, Varnode, CBRANCH, CONSTANT, END, EXIT, INT_AND,
-    INT_LESSEQUAL, JOURNAL_WORDS_PER_OPERATION, LEAK, LEAK_AHEAD, LITTLE, LOAD, LOG, PUBLIC, RAM,
-    REGISTER, SECRET, WINDOW_MARK,
+    operation, speculative_run, Counts, Settings, Spaces, Varnode, CBRANCH, CONSTANT, END, EXIT,
+    INT_AND, INT_LESSEQUAL, JOURNAL_WORDS_PER_OPERATION, LEAK, LEAK_AHEAD, LITTLE, LOAD, LOG,
+    PUBLIC, RAM, REGISTER, SECRET, WINDOW_MARK,
 };
 
 const TABLE_BYTES: u8 = 8;
@@ -83,6 +83,7 @@ fn check(stub: &Stub, window: u64) -> bool {
         register: vec![PUBLIC; 4],
         ram: (0..RAM_BYTES).map(label).collect(),
     };
+    let mut counts = Counts::of(&labels);
     let mut log = [0; 16];
     let mut journal = [0; WINDOW as usize * JOURNAL_WORDS_PER_OPERATION];
     let report = speculative_run(
@@ -93,6 +94,7 @@ fn check(stub: &Stub, window: u64) -> bool {
         window,
         &mut memory,
         &mut labels,
+        &mut counts,
         &mut log,
         &mut journal,
     );

@@ -1,5 +1,5 @@
-//! The library for Rust: safe functions over the labelled and the speculative run of the C interface, and what
-//! an example needs of its numbers. The other calls of include/undrelvoa.h go the same way.
+//! The library for Rust: safe functions over the labelled and the speculative run of the C interface and the call that
+//! counts secret bytes, and what an example needs of its numbers. The other calls of include/undrelvoa.h go the same way.
 
 /// Byte order, address size, and for each space its wordsize: how many bytes a pointer of LOAD or STORE counts as one.
 pub struct Settings {
@@ -111,12 +111,59 @@ pub struct Spaces {
     pub ram: Vec<u8>,
 }
 
+/// The counts of secret bytes: for each space a word for each block of 64 bytes, then the total.
+pub struct Counts {
+    pub unique: Vec<u64>,
+    pub register: Vec<u64>,
+    pub ram: Vec<u64>,
+}
+
+impl Counts {
+    /// Counts the secret bytes of labels that a run would take. A run then keeps the counts.
+    pub fn of(labels: &Spaces) -> Counts {
+        let words = |labels: &[u8]| vec![0; labels.len().div_ceil(64) + 1];
+        let mut counts = Counts {
+            unique: words(&labels.unique),
+            register: words(&labels.register),
+            ram: words(&labels.ram),
+        };
+        let mut report = [0; 5];
+        // SAFETY: each pointer and length are those of one Vec or array, and each of those that are written is borrowed
+        // by this call alone, so none overlaps another.
+        let answer = unsafe {
+            undrelvoa_count_secrets(
+                labels.unique.as_ptr(),
+                labels.unique.len(),
+                labels.register.as_ptr(),
+                labels.register.len(),
+                labels.ram.as_ptr(),
+                labels.ram.len(),
+                counts.unique.as_mut_ptr(),
+                counts.unique.len(),
+                counts.register.as_mut_ptr(),
+                counts.register.len(),
+                counts.ram.as_mut_ptr(),
+                counts.ram.len(),
+                report.as_mut_ptr(),
+                report.len(),
+            )
+        };
+        assert_eq!((answer, report[0]), (0, END), "at most 65,536 labels a space, 0 or 1 each");
+        counts
+    }
+
+    /// The secret bytes of unique, register and ram.
+    pub fn totals(&self) -> [u64; 3] {
+        [&self.unique, &self.register, &self.ram].map(|words| words[words.len() - 1])
+    }
+}
+
 // The examples do not use all of its calls.
 #[allow(dead_code)]
 #[path = "../../include/undrelvoa.rs"]
 mod calls;
 
-use calls::{undrelvoa_labelled_run, undrelvoa_speculative_run};
+use calls::{undrelvoa_count_secrets, undrelvoa_labelled_run, undrelvoa_speculative_run};
 
 /// Runs a list from `start` on, at most `budget` operations. The start of `log` becomes the log words written.
 pub fn labelled_run(
@@ -126,6 +173,7 @@ pub fn labelled_run(
     budget: u32,
     memory: &mut Spaces,
     labels: &mut Spaces,
+    counts: &mut Counts,
     log: &mut [u64],
 ) -> Report {
     let settings = settings.words();
@@ -152,6 +200,12 @@ pub fn labelled_run(
             labels.register.len(),
             labels.ram.as_mut_ptr(),
             labels.ram.len(),
+            counts.unique.as_mut_ptr(),
+            counts.unique.len(),
+            counts.register.as_mut_ptr(),
+            counts.register.len(),
+            counts.ram.as_mut_ptr(),
+            counts.ram.len(),
             log.as_mut_ptr(),
             log.len(),
             report.as_mut_ptr(),
@@ -172,6 +226,7 @@ pub fn speculative_run(
     window: u64,
     memory: &mut Spaces,
     labels: &mut Spaces,
+    counts: &mut Counts,
     log: &mut [u64],
     journal: &mut [u64],
 ) -> Report {
@@ -199,6 +254,12 @@ pub fn speculative_run(
             labels.register.len(),
             labels.ram.as_mut_ptr(),
             labels.ram.len(),
+            counts.unique.as_mut_ptr(),
+            counts.unique.len(),
+            counts.register.as_mut_ptr(),
+            counts.register.len(),
+            counts.ram.as_mut_ptr(),
+            counts.ram.len(),
             log.as_mut_ptr(),
             log.len(),
             journal.as_mut_ptr(),

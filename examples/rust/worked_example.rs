@@ -5,8 +5,8 @@
 mod undrelvoa;
 
 use undrelvoa::{
-    labelled_run, operation, Settings, Spaces, Varnode, CONSTANT, COPY, INT_AND, LITTLE, LOAD, RAM,
-    REGISTER, SECRET, UNIQUE,
+    labelled_run, operation, Counts, Settings, Spaces, Varnode, CONSTANT, COPY, INT_AND, LITTLE,
+    LOAD, RAM, REGISTER, SECRET, UNIQUE,
 };
 
 fn varnode(space: u64, offset: u64, size: u64) -> Varnode {
@@ -41,10 +41,19 @@ fn main() {
     memory.register[0] = 0x0d;
     memory.ram[5] = 0x5a;
     labels.ram[5] = SECRET;
+    let mut counts = Counts::of(&labels);
     let mut log = [0; 4];
 
-    let report =
-        labelled_run(&settings, &list.concat(), 0, 100, &mut memory, &mut labels, &mut log);
+    let report = labelled_run(
+        &settings,
+        &list.concat(),
+        0,
+        100,
+        &mut memory,
+        &mut labels,
+        &mut counts,
+        &mut log,
+    );
     println!(
         "{} {} {} {} {}",
         report.ending, report.index, report.executed, report.logged, report.value

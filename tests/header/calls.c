@@ -93,9 +93,10 @@ static void labelled_runs(void) {
     uint64_t list[10] = {0x00323201, 1, 0, 0, 0, 0x00310009, 0, 1, 0, 0};
     uint8_t unique[1] = {0}, registers[4] = {1, 2, 3, 4}, ram[8] = {0};
     uint8_t of_unique[1] = {0}, of_registers[4] = {1, 0, 1, 0}, of_ram[8] = {0};
+    uint64_t counts[6] = {0}; /* two words for each space */
     uint64_t log[1] = {8};
     uint64_t report[6] = {7, 7, 7, 7, 7, 9};
-    expect("labelled step", undrelvoa_labelled_step(little1, 5, list, 10, 0, unique, 1, registers, 4, ram, 8, of_unique, 1, of_registers, 4, of_ram, 8, log, 1, report, 6), 0);
+    expect("labelled step", undrelvoa_labelled_step(little1, 5, list, 10, 0, unique, 1, registers, 4, ram, 8, of_unique, 1, of_registers, 4, of_ram, 8, counts, 2, counts + 2, 2, counts + 4, 2, log, 1, report, 6), 0);
     expect("budget spent", report[0], 2);
     expect("next index", report[1], 1);
     expect("byte written", registers[2], 2);
@@ -103,23 +104,23 @@ static void labelled_runs(void) {
     expect("secret label written", of_registers[1], 1);
     expect("public label written", of_registers[2], 0);
     expect("label after", of_registers[3], 0);
-    expect("labelled run", undrelvoa_labelled_run(little1, 5, list, 10, 1, 9, unique, 1, registers, 4, ram, 8, of_unique, 1, of_registers, 4, of_ram, 8, log, 1, report, 6), 0);
+    expect("labelled run", undrelvoa_labelled_run(little1, 5, list, 10, 1, 9, unique, 1, registers, 4, ram, 8, of_unique, 1, of_registers, 4, of_ram, 8, counts, 2, counts + 2, 2, counts + 4, 2, log, 1, report, 6), 0);
     expect("secret destination", report[0], 31);
     expect("where it stopped", report[1], 1);
     expect("not executed", report[2], 0);
     expect("no value", report[4], 0);
     of_registers[1] = 0;
-    expect("labelled run", undrelvoa_labelled_run(little1, 5, list, 10, 1, 9, unique, 1, registers, 4, ram, 8, of_unique, 1, of_registers, 4, of_ram, 8, log, 1, report, 6), 0);
+    expect("labelled run", undrelvoa_labelled_run(little1, 5, list, 10, 1, 9, unique, 1, registers, 4, ram, 8, of_unique, 1, of_registers, 4, of_ram, 8, counts, 2, counts + 2, 2, counts + 4, 2, log, 1, report, 6), 0);
     expect("exit", report[0], 1);
     expect("destination", report[4], 1);
     expect("the word after the report", report[5], 9);
-    expect("labelled run", undrelvoa_labelled_run(little1, 5, list, 10, 0, 9, unique, 1, registers, 4, ram, 8, of_unique, 1, of_registers, 3, of_ram, 8, log, 1, report, 6), 0);
+    expect("labelled run", undrelvoa_labelled_run(little1, 5, list, 10, 0, 9, unique, 1, registers, 4, ram, 8, of_unique, 1, of_registers, 3, of_ram, 8, counts, 2, counts + 2, 2, counts + 4, 2, log, 1, report, 6), 0);
     expect("a label too few", report[0], 11);
     of_registers[3] = 2;
-    expect("labelled run", undrelvoa_labelled_run(little1, 5, list, 10, 0, 9, unique, 1, registers, 4, ram, 8, of_unique, 1, of_registers, 4, of_ram, 8, log, 1, report, 6), 0);
+    expect("labelled run", undrelvoa_labelled_run(little1, 5, list, 10, 0, 9, unique, 1, registers, 4, ram, 8, of_unique, 1, of_registers, 4, of_ram, 8, counts, 2, counts + 2, 2, counts + 4, 2, log, 1, report, 6), 0);
     expect("a label of 2", report[0], 12);
     expect("the label after a refusal", of_registers[2], 0);
-    expect("short report", undrelvoa_labelled_run(little1, 5, list, 10, 0, 9, unique, 1, registers, 4, ram, 8, of_unique, 1, of_registers, 4, of_ram, 8, log, 1, report, 4), 11);
+    expect("short report", undrelvoa_labelled_run(little1, 5, list, 10, 0, 9, unique, 1, registers, 4, ram, 8, of_unique, 1, of_registers, 4, of_ram, 8, counts, 2, counts + 2, 2, counts + 4, 2, log, 1, report, 4), 11);
 }
 
 /* A look into a table of ram behind a check of its index, and a LOAD at what is found there. The index is past the table,
@@ -140,10 +141,11 @@ static void speculative_runs(void) {
     for (secret = 0; secret <= 1; secret++) {
         uint8_t unique[STUB_BYTES] = {5, 1, 2, 3}, ram[STUB_RAM] = {0}, of_unique[STUB_BYTES] = {0}, of_ram[STUB_RAM] = {0};
         uint64_t log[STUB_LOG + 1] = {8, 8, 8}, journal[STUB_JOURNAL] = {6, 6, 6, 6, 6, 6, 6, 6, 6}, report[6] = {7, 7, 7, 7, 7, 9};
+        uint64_t counts[5] = {4, 4, 4, 4, 4}; /* for unique, no register and ram */
         size_t i;
         ram[5] = 9;
         of_ram[5] = (uint8_t)secret;
-        expect("speculative run", undrelvoa_speculative_run(little1, 5, table_stub, STUB_WORDS, 0, 9, 2, unique, STUB_BYTES, NULL, 0, ram, STUB_RAM, of_unique, STUB_BYTES, NULL, 0, of_ram, STUB_RAM, log, STUB_LOG + 1, journal, STUB_JOURNAL, report, 6), 0);
+        expect("speculative run", undrelvoa_speculative_run(little1, 5, table_stub, STUB_WORDS, 0, 9, 2, unique, STUB_BYTES, NULL, 0, ram, STUB_RAM, of_unique, STUB_BYTES, NULL, 0, of_ram, STUB_RAM, counts, 2, counts + 2, 1, counts + 3, 2, log, STUB_LOG + 1, journal, STUB_JOURNAL, report, 6), 0);
         expect("its ending", report[UNDRELVOA_REPORT_ENDING], secret ? UNDRELVOA_LEAK_AHEAD : UNDRELVOA_END);
         expect("its index", report[UNDRELVOA_REPORT_INDEX], secret ? 1 : 4);
         expect("executed", report[UNDRELVOA_REPORT_EXECUTED], secret ? 1 : 2);
@@ -159,6 +161,9 @@ static void speculative_runs(void) {
         }
         expect("what the window wrote, undone", unique[1], 1);
         expect("its label, undone", of_unique[1], UNDRELVOA_PUBLIC);
+        for (i = 0; i < 5; i++) {
+            expect("count, undone", counts[i], 4);
+        }
         expect("what the run wrote", unique[2], 1);
     }
 }
@@ -186,12 +191,12 @@ static void windows(void) {
     size_t call, i;
     for (call = 0; call < sizeof calls / sizeof calls[0]; call++) {
         uint8_t unique[1] = {7}, labels[1] = {UNDRELVOA_SECRET};
-        uint64_t log[1] = {8}, journal[300], report[5] = {7, 7, 7, 7, 7}, changed = 0;
+        uint64_t counts[4] = {1, 1, 0, 0}, log[1] = {8}, journal[300], report[5] = {7, 7, 7, 7, 7}, changed = 0;
         const int runs = calls[call].wanted == UNDRELVOA_END;
         for (i = 0; i < 300; i++) {
             journal[i] = 6;
         }
-        expect("speculative run", undrelvoa_speculative_run(little8, 5, list, 5, 0, 9, calls[call].window, unique, 1, NULL, 0, NULL, 0, labels, 1, NULL, 0, NULL, 0, log, 1, calls[call].journal_len == 0 ? NULL : journal, calls[call].journal_len, report, 5), 0);
+        expect("speculative run", undrelvoa_speculative_run(little8, 5, list, 5, 0, 9, calls[call].window, unique, 1, NULL, 0, NULL, 0, labels, 1, NULL, 0, NULL, 0, counts, 2, counts + 2, 1, counts + 3, 1, log, 1, calls[call].journal_len == 0 ? NULL : journal, calls[call].journal_len, report, 5), 0);
         for (i = 0; i < 300; i++) {
             changed += journal[i] != 6;
         }
@@ -200,8 +205,66 @@ static void windows(void) {
         expect("their index", report[UNDRELVOA_REPORT_INDEX], runs ? 1 : 0);
         expect("their byte", unique[0], runs ? 9 : 7);
         expect("their label", labels[0], runs ? UNDRELVOA_PUBLIC : UNDRELVOA_SECRET);
+        expect("their count", counts[0], runs ? 0 : 1);
+        expect("their total", counts[1], runs ? 0 : 1);
         expect("their log", log[0], 8);
     }
+}
+
+/* Registers of 65 bytes, of which the last three of the first block and the byte behind them are secret. */
+enum { COUNTED_BYTES = 65, COUNTED_WORDS = UNDRELVOA_COUNT_WORDS(COUNTED_BYTES) };
+
+static void mark_secrets(uint8_t *labels) {
+    memset(labels, UNDRELVOA_PUBLIC, COUNTED_BYTES);
+    memset(labels + 61, UNDRELVOA_SECRET, 4);
+}
+
+static void expect_counts(const char *what, const uint64_t *counts, uint64_t first, uint64_t second, uint64_t total) {
+    expect(what, counts[0], first);
+    expect(what, counts[1], second);
+    expect(what, counts[2], total);
+    expect("the word after the counts", counts[COUNTED_WORDS], 9);
+}
+
+/* Known results: the counts of the blocks are 3 and 1, the total 4. A COPY of a constant over the last two of these bytes
+ * makes them 2, 0 and 2, and one of the first of them to the byte before it 3, 0 and 3. */
+static void counts_of_secrets(void) {
+    const uint64_t list[10] = {0x00123201, 63, 0, 0, 0, 0x00313101, 60, 61, 0, 0};
+    uint8_t registers[COUNTED_BYTES] = {0}, labels[COUNTED_BYTES];
+    uint64_t none[1] = {8}, totals[1] = {8}, counts[COUNTED_WORDS + 1] = {5, 5, 5, 9}, report[6] = {7, 7, 7, 7, 7, 9};
+    size_t i;
+    mark_secrets(labels);
+    expect("count secrets", undrelvoa_count_secrets(NULL, 0, labels, COUNTED_BYTES, NULL, 0, none, 1, counts, COUNTED_WORDS + 1, totals, 1, report, 6), 0);
+    expect_counts("filled", counts, 3, 1, 4);
+    expect("an empty space", none[0] + totals[0], 0);
+    for (i = 0; i < UNDRELVOA_REPORT_WORDS; i++) {
+        expect("a report of zeros", report[i], 0);
+    }
+    expect("the word after the report", report[5], 9);
+    expect("labelled step", undrelvoa_labelled_step(little8, 5, list, 10, 0, NULL, 0, registers, COUNTED_BYTES, NULL, 0, NULL, 0, labels, COUNTED_BYTES, NULL, 0, none, 1, counts, COUNTED_WORDS + 1, totals, 1, NULL, 0, report, 5), 0);
+    expect_counts("after a step", counts, 2, 0, 2);
+    expect("labelled run", undrelvoa_labelled_run(little8, 5, list, 10, 0, 9, NULL, 0, registers, COUNTED_BYTES, NULL, 0, NULL, 0, labels, COUNTED_BYTES, NULL, 0, none, 1, counts, COUNTED_WORDS + 1, totals, 1, NULL, 0, report, 5), 0);
+    expect_counts("after a run", counts, 3, 0, 3);
+    /* counts that hold anything move by as much, modulo 2^64 */
+    mark_secrets(labels);
+    counts[0] = counts[1] = counts[2] = 0;
+    expect("labelled run", undrelvoa_labelled_run(little8, 5, list, 10, 0, 9, NULL, 0, registers, COUNTED_BYTES, NULL, 0, NULL, 0, labels, COUNTED_BYTES, NULL, 0, none, 1, counts, COUNTED_WORDS + 1, totals, 1, NULL, 0, report, 5), 0);
+    expect_counts("wrapped", counts, 0, UINT64_MAX, UINT64_MAX);
+    /* refusals leave them as lent */
+    mark_secrets(labels);
+    expect("labelled run", undrelvoa_labelled_run(little8, 5, list, 10, 0, 9, NULL, 0, registers, COUNTED_BYTES, NULL, 0, NULL, 0, labels, COUNTED_BYTES, NULL, 0, none, 1, counts, COUNTED_WORDS - 1, totals, 1, NULL, 0, report, 5), 0);
+    expect("a word too few", report[UNDRELVOA_REPORT_ENDING], UNDRELVOA_LENGTH);
+    expect("labelled step", undrelvoa_labelled_step(little8, 5, list, 10, 0, NULL, 0, registers, COUNTED_BYTES, NULL, 0, NULL, 0, labels, COUNTED_BYTES, NULL, 0, none, 0, counts, COUNTED_WORDS, totals, 1, NULL, 0, report, 5), 0);
+    expect("no total", report[UNDRELVOA_REPORT_ENDING], UNDRELVOA_LENGTH);
+    expect("speculative run", undrelvoa_speculative_run(little8, 5, list, 10, 0, 9, 0, NULL, 0, registers, COUNTED_BYTES, NULL, 0, NULL, 0, labels, COUNTED_BYTES, NULL, 0, none, 1, counts, COUNTED_WORDS, totals, 0, NULL, 0, NULL, 0, report, 5), 0);
+    expect("no total", report[UNDRELVOA_REPORT_ENDING], UNDRELVOA_LENGTH);
+    labels[0] = 2;
+    expect("count secrets", undrelvoa_count_secrets(NULL, 0, labels, COUNTED_BYTES, NULL, 0, none, 1, counts, COUNTED_WORDS - 1, totals, 1, report, 5), 0);
+    expect("a word too few before a label of 2", report[UNDRELVOA_REPORT_ENDING], UNDRELVOA_LENGTH);
+    expect("count secrets", undrelvoa_count_secrets(NULL, 0, labels, COUNTED_BYTES, NULL, 0, none, 1, counts, COUNTED_WORDS, totals, 1, report, 5), 0);
+    expect("a label of 2", report[UNDRELVOA_REPORT_ENDING], UNDRELVOA_LABEL);
+    expect("short report", undrelvoa_count_secrets(NULL, 0, labels, COUNTED_BYTES, NULL, 0, none, 1, counts, COUNTED_WORDS, totals, 1, report, 4), UNDRELVOA_ANSWER_LENGTH);
+    expect_counts("after refusals", counts, 0, UINT64_MAX, UINT64_MAX);
 }
 
 static void shown(void) {
@@ -278,6 +341,13 @@ static void numbers(void) {
         {"budget", UNDRELVOA_MAX_BUDGET, 4294967295},
         {"operations of a window", UNDRELVOA_MAX_WINDOW, 64},
         {"words of a journal for each", UNDRELVOA_JOURNAL_WORDS_PER_OPERATION, 4},
+        {"bytes of a block", UNDRELVOA_BLOCK_BYTES, 64},
+        {"words to count 0 bytes", UNDRELVOA_COUNT_WORDS(0), 1},
+        {"words to count 1 byte", UNDRELVOA_COUNT_WORDS(1), 2},
+        {"words to count 64 bytes", UNDRELVOA_COUNT_WORDS(64), 2},
+        {"words to count 65 bytes", UNDRELVOA_COUNT_WORDS(65), 3},
+        {"words to count the longest space", UNDRELVOA_COUNT_WORDS(UNDRELVOA_MAX_SPACE_BYTES), 1025},
+        {"words to count all bytes that there can be", UNDRELVOA_COUNT_WORDS(SIZE_MAX), SIZE_MAX / 64 + 2},
         {"mark of a window", UNDRELVOA_WINDOW_MARK, 0x8000000000000000},
         {"leak ahead", UNDRELVOA_LEAK_AHEAD, 35},
         {"words of an operation", UNDRELVOA_OPERATION_WORDS, 5},
@@ -323,20 +393,21 @@ static void settings(void) {
         int call;
         for (call = 0; call < 6; call++) {
             uint8_t unique[1] = {7}, labels[1] = {UNDRELVOA_SECRET};
-            uint64_t log[1] = {7}, journal[4] = {7, 7, 7, 7}, report[5] = {7, 7, 7, 7, 7}, answer;
+            uint64_t counts[4] = {7, 7, 7, 7}, log[1] = {7}, journal[4] = {7, 7, 7, 7}, report[5] = {7, 7, 7, 7, 7}, answer;
             int taken = n == UNDRELVOA_SETTINGS_WORDS, runs = call > 0;
             switch (call) {
             case 0: answer = undrelvoa_validate(words, n, 1, 0, 0, list, 5, report, 5); break;
             case 1: answer = undrelvoa_run(words, n, list, 5, 0, 9, unique, 1, NULL, 0, NULL, 0, log, 1, report, 5); break;
             case 2: answer = undrelvoa_step(words, n, list, 5, 0, unique, 1, NULL, 0, NULL, 0, log, 1, report, 5); break;
-            case 3: answer = undrelvoa_labelled_run(words, n, list, 5, 0, 9, unique, 1, NULL, 0, NULL, 0, labels, 1, NULL, 0, NULL, 0, log, 1, report, 5); break;
-            case 4: answer = undrelvoa_labelled_step(words, n, list, 5, 0, unique, 1, NULL, 0, NULL, 0, labels, 1, NULL, 0, NULL, 0, log, 1, report, 5); break;
-            default: answer = undrelvoa_speculative_run(words, n, list, 5, 0, 9, 1, unique, 1, NULL, 0, NULL, 0, labels, 1, NULL, 0, NULL, 0, log, 1, journal, 4, report, 5);
+            case 3: answer = undrelvoa_labelled_run(words, n, list, 5, 0, 9, unique, 1, NULL, 0, NULL, 0, labels, 1, NULL, 0, NULL, 0, counts, 2, counts + 2, 1, counts + 3, 1, log, 1, report, 5); break;
+            case 4: answer = undrelvoa_labelled_step(words, n, list, 5, 0, unique, 1, NULL, 0, NULL, 0, labels, 1, NULL, 0, NULL, 0, counts, 2, counts + 2, 1, counts + 3, 1, log, 1, report, 5); break;
+            default: answer = undrelvoa_speculative_run(words, n, list, 5, 0, 9, 1, unique, 1, NULL, 0, NULL, 0, labels, 1, NULL, 0, NULL, 0, counts, 2, counts + 2, 1, counts + 3, 1, log, 1, journal, 4, report, 5);
             }
             expect("settings of n words", answer, wanted);
             expect("the report then", report[UNDRELVOA_REPORT_ENDING], taken ? UNDRELVOA_END : 7);
             expect("the byte then", unique[0], taken && runs ? 9 : 7);
             expect("the label then", labels[0], taken && call > 2 ? UNDRELVOA_PUBLIC : UNDRELVOA_SECRET);
+            expect("the count then", counts[0], taken && call > 2 ? 6 : 7);
             expect("the journal then", journal[3], taken && call == 5 ? 0 : 7);
         }
     }
@@ -349,7 +420,7 @@ static void wordsizes(void) {
     uint64_t words[UNDRELVOA_SETTINGS_WORDS] = {UNDRELVOA_LITTLE, 1, 1, 1, 1};
     uint64_t list[5] = {0, 0, UNDRELVOA_SPACE_RAM, 3, 0};
     uint8_t unique[3] = {0}, ram[12] = {0}, of_unique[3] = {0}, of_ram[12] = {0};
-    uint64_t log[1] = {8}, report[5] = {7, 7, 7, 7, 7};
+    uint64_t counts[5] = {0}, log[1] = {8}, report[5] = {7, 7, 7, 7, 7};
     size_t i;
     words[UNDRELVOA_SETTINGS_RAM_WORDSIZE] = 3;
     list[0] = UNDRELVOA_OPERATION_HEAD(UNDRELVOA_LOAD, unique_word, byte, byte, UNDRELVOA_ABSENT);
@@ -361,13 +432,13 @@ static void wordsizes(void) {
     expect("its byte offset", log[0], 9);
     expect("its first byte", unique[0], 0x12);
     expect("its last byte", unique[2], 0x56);
-    expect("labelled run", undrelvoa_labelled_run(words, 5, list, 5, 0, 9, unique, 3, NULL, 0, ram, 12, of_unique, 3, NULL, 0, of_ram, 12, log, 1, report, 5), 0);
+    expect("labelled run", undrelvoa_labelled_run(words, 5, list, 5, 0, 9, unique, 3, NULL, 0, ram, 12, of_unique, 3, NULL, 0, of_ram, 12, counts, 2, counts + 2, 1, counts + 3, 2, log, 1, report, 5), 0);
     expect("its first label", of_unique[0], UNDRELVOA_PUBLIC);
     expect("its second label", of_unique[1], UNDRELVOA_SECRET);
     expect("its last label", of_unique[2], UNDRELVOA_PUBLIC);
     list[0] = UNDRELVOA_OPERATION_HEAD(UNDRELVOA_STORE, UNDRELVOA_ABSENT, byte, byte, unique_word);
     list[3] = 1;
-    expect("labelled step", undrelvoa_labelled_step(words, 5, list, 5, 0, unique, 3, NULL, 0, ram, 12, of_unique, 3, NULL, 0, of_ram, 12, log, 1, report, 5), 0);
+    expect("labelled step", undrelvoa_labelled_step(words, 5, list, 5, 0, unique, 3, NULL, 0, ram, 12, of_unique, 3, NULL, 0, of_ram, 12, counts, 2, counts + 2, 1, counts + 3, 2, log, 1, report, 5), 0);
     expect("the second word", log[0], 3);
     expect("its first byte", ram[3], 0x12);
     expect("its first label", of_ram[3], UNDRELVOA_PUBLIC);
@@ -392,7 +463,7 @@ static void wordsizes(void) {
 
 /* Every buffer without elements may be NULL. */
 static void empty(void) {
-    uint64_t report[5] = {7, 7, 7, 7, 7}, place[3] = {7, 7, 7};
+    uint64_t report[5] = {7, 7, 7, 7, 7}, place[3] = {7, 7, 7}, totals[3] = {7, 7, 7};
     expect("value", undrelvoa_value(UNDRELVOA_INT_ADD, 1, 1, 1, 1, 1, NULL, 0), UNDRELVOA_ANSWER_LENGTH);
     expect("gather", undrelvoa_gather(UNDRELVOA_LITTLE, NULL, 0, 0, 1, report, 1), UNDRELVOA_ANSWER_RANGE);
     expect("gather", undrelvoa_gather(UNDRELVOA_LITTLE, NULL, 0, 0, 1, NULL, 0), UNDRELVOA_ANSWER_LENGTH);
@@ -403,12 +474,20 @@ static void empty(void) {
     expect("an empty run", report[UNDRELVOA_REPORT_ENDING], UNDRELVOA_END);
     expect("step", undrelvoa_step(little8, 5, NULL, 0, 1, NULL, 0, NULL, 0, NULL, 0, NULL, 0, report, 5), 0);
     expect("a step after the end", report[UNDRELVOA_REPORT_ENDING], UNDRELVOA_START);
-    expect("labelled run", undrelvoa_labelled_run(little8, 5, NULL, 0, 0, 9, NULL, 0, NULL, 0, NULL, 0, NULL, 0, NULL, 0, NULL, 0, NULL, 0, report, 5), 0);
+    expect("labelled run", undrelvoa_labelled_run(little8, 5, NULL, 0, 0, 9, NULL, 0, NULL, 0, NULL, 0, NULL, 0, NULL, 0, NULL, 0, totals, 1, totals + 1, 1, totals + 2, 1, NULL, 0, report, 5), 0);
     expect("an empty run", report[UNDRELVOA_REPORT_ENDING], UNDRELVOA_END);
-    expect("labelled step", undrelvoa_labelled_step(little8, 5, NULL, 0, 0, NULL, 0, NULL, 0, NULL, 0, NULL, 0, NULL, 0, NULL, 0, NULL, 0, NULL, 0), UNDRELVOA_ANSWER_LENGTH);
-    expect("speculative run", undrelvoa_speculative_run(little8, 5, NULL, 0, 0, 9, 0, NULL, 0, NULL, 0, NULL, 0, NULL, 0, NULL, 0, NULL, 0, NULL, 0, NULL, 0, report, 5), 0);
+    expect("its totals", totals[0] + totals[1] + totals[2], 21);
+    expect("labelled run", undrelvoa_labelled_run(little8, 5, NULL, 0, 0, 9, NULL, 0, NULL, 0, NULL, 0, NULL, 0, NULL, 0, NULL, 0, NULL, 0, NULL, 0, NULL, 0, NULL, 0, report, 5), 0);
+    expect("a run without totals", report[UNDRELVOA_REPORT_ENDING], UNDRELVOA_LENGTH);
+    expect("labelled step", undrelvoa_labelled_step(little8, 5, NULL, 0, 0, NULL, 0, NULL, 0, NULL, 0, NULL, 0, NULL, 0, NULL, 0, NULL, 0, NULL, 0, NULL, 0, NULL, 0, NULL, 0), UNDRELVOA_ANSWER_LENGTH);
+    expect("speculative run", undrelvoa_speculative_run(little8, 5, NULL, 0, 0, 9, 0, NULL, 0, NULL, 0, NULL, 0, NULL, 0, NULL, 0, NULL, 0, totals, 1, totals + 1, 1, totals + 2, 1, NULL, 0, NULL, 0, report, 5), 0);
     expect("an empty run", report[UNDRELVOA_REPORT_ENDING], UNDRELVOA_END);
-    expect("speculative run", undrelvoa_speculative_run(NULL, 0, NULL, 0, 0, 9, 1, NULL, 0, NULL, 0, NULL, 0, NULL, 0, NULL, 0, NULL, 0, NULL, 0, NULL, 0, NULL, 0), UNDRELVOA_ANSWER_LENGTH);
+    expect("speculative run", undrelvoa_speculative_run(NULL, 0, NULL, 0, 0, 9, 1, NULL, 0, NULL, 0, NULL, 0, NULL, 0, NULL, 0, NULL, 0, NULL, 0, NULL, 0, NULL, 0, NULL, 0, NULL, 0, NULL, 0), UNDRELVOA_ANSWER_LENGTH);
+    expect("count secrets", undrelvoa_count_secrets(NULL, 0, NULL, 0, NULL, 0, totals, 1, totals + 1, 1, totals + 2, 1, report, 5), 0);
+    expect("no secret bytes", totals[0] + totals[1] + totals[2], 0);
+    expect("count secrets", undrelvoa_count_secrets(NULL, 0, NULL, 0, NULL, 0, NULL, 0, NULL, 0, NULL, 0, report, 5), 0);
+    expect("no room for a total", report[UNDRELVOA_REPORT_ENDING], UNDRELVOA_LENGTH);
+    expect("count secrets", undrelvoa_count_secrets(NULL, 0, NULL, 0, NULL, 0, NULL, 0, NULL, 0, NULL, 0, NULL, 0), UNDRELVOA_ANSWER_LENGTH);
     expect("show", undrelvoa_show(NULL, 0, NULL, 0, NULL, 0, UNDRELVOA_SPACE_RAM, 0, 1, place, UNDRELVOA_PLACE_WORDS), 0);
     expect("nothing to show", place[UNDRELVOA_PLACE_SPACE] + place[UNDRELVOA_PLACE_OFFSET] + place[UNDRELVOA_PLACE_BYTES], 0);
     expect("show", undrelvoa_show(NULL, 0, NULL, 0, NULL, 0, UNDRELVOA_SPACE_RAM, 0, 1, NULL, 0), UNDRELVOA_ANSWER_LENGTH);
@@ -421,13 +500,13 @@ static uint64_t loop[10];
 static void *count_down(void *from) {
     const uint8_t turns = *(uint8_t *)from;
     uint8_t registers[2] = {0}, labels[2] = {0};
-    uint64_t log[256], journal[8], report[5], ahead = 0;
+    uint64_t counts[4] = {0, 0, 0, 0}, log[256], journal[8], report[5], ahead = 0;
     registers[0] = turns;
     switch (turns % 3) {
     case 0: undrelvoa_run(little8, 5, loop, 10, 0, 100000, NULL, 0, registers, 2, NULL, 0, log, 256, report, 5); break;
-    case 1: undrelvoa_labelled_run(little8, 5, loop, 10, 0, 100000, NULL, 0, registers, 2, NULL, 0, NULL, 0, labels, 2, NULL, 0, log, 256, report, 5); break;
+    case 1: undrelvoa_labelled_run(little8, 5, loop, 10, 0, 100000, NULL, 0, registers, 2, NULL, 0, NULL, 0, labels, 2, NULL, 0, counts, 1, counts + 1, 2, counts + 3, 1, log, 256, report, 5); break;
     default:
-        undrelvoa_speculative_run(little8, 5, loop, 10, 0, 100000, 2, NULL, 0, registers, 2, NULL, 0, NULL, 0, labels, 2, NULL, 0, log, 256, journal, 8, report, 5);
+        undrelvoa_speculative_run(little8, 5, loop, 10, 0, 100000, 2, NULL, 0, registers, 2, NULL, 0, NULL, 0, labels, 2, NULL, 0, counts, 1, counts + 1, 2, counts + 3, 1, log, 256, journal, 8, report, 5);
         ahead = 1;
     }
     *(uint8_t *)from = report[UNDRELVOA_REPORT_ENDING] == UNDRELVOA_END && registers[0] == 0
@@ -471,6 +550,7 @@ int main(void) {
     labelled_runs();
     speculative_runs();
     windows();
+    counts_of_secrets();
     shown();
     limits();
     settings();

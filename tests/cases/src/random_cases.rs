@@ -44,11 +44,8 @@ impl Case {
     /// What the second program's run reports with a budget, and what it leaves.
     pub fn run(&self, budget: u32) -> (Report, State) {
         let program = Program { settings: self.call.settings, list: self.call.list.clone() };
-        let mut state = State {
-            memory: self.memory.clone(),
-            labels: Some(self.labels.clone()),
-            log: vec![0; LOG_WORDS],
-        };
+        let (memory, labels) = (self.memory.clone(), self.labels.clone());
+        let mut state = State::labelled(memory, labels, vec![0; LOG_WORDS]);
         (run(&program, 0, budget, &mut state), state)
     }
 }

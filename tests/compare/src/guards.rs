@@ -1,7 +1,5 @@
 //! Lent buffers between guards, by which a write beyond their ends is seen.
 
-use reference::memory::Spaces;
-
 use crate::agreement::RESULT_WORDS;
 use crate::LentSpaces;
 
@@ -35,7 +33,7 @@ impl<T: Copy + PartialEq> Guarded<T> {
 /// Guard elements on each side of a lent buffer.
 const GUARD: usize = 16;
 
-fn guard_byte(index: usize) -> u8 {
+pub(crate) fn guard_byte(index: usize) -> u8 {
     0xa5 ^ (17 * index as u8)
 }
 
@@ -43,25 +41,26 @@ pub(crate) fn guard_word(index: usize) -> u64 {
     RESULT_WORDS[index % RESULT_WORDS.len()]
 }
 
-/// Three spaces, or their labels, each between guards.
-pub(crate) struct GuardedSpaces {
-    spaces: [Guarded<u8>; 3],
+/// Three spaces, their labels or the counts of these, each between guards.
+pub(crate) struct GuardedSpaces<T> {
+    spaces: [Guarded<T>; 3],
+    guard: fn(usize) -> T,
 }
 
-impl GuardedSpaces {
-    pub fn around(spaces: &Spaces) -> GuardedSpaces {
-        GuardedSpaces { spaces: spaces.all().map(|space| Guarded::around(space, guard_byte)) }
+impl<T: Copy + PartialEq> GuardedSpaces<T> {
+    pub fn around(spaces: [&Vec<T>; 3], guard: fn(usize) -> T) -> GuardedSpaces<T> {
+        GuardedSpaces { spaces: spaces.map(|space| Guarded::around(space, guard)), guard }
     }
 
-    pub fn lent(&mut self) -> LentSpaces<'_> {
+    pub fn lent(&mut self) -> LentSpaces<'_, T> {
         let [unique, register, ram] = &mut self.spaces;
         LentSpaces { unique: unique.lent(), register: register.lent(), ram: ram.lent() }
     }
 
-    pub fn give_back(self, to: &mut Spaces) -> bool {
+    pub fn give_back(self, to: [&mut Vec<T>; 3]) -> bool {
         let mut holds = true;
-        for (space, to) in self.spaces.into_iter().zip(to.all_mut()) {
-            holds &= space.give_back(guard_byte, to);
+        for (space, to) in self.spaces.into_iter().zip(to) {
+            holds &= space.give_back(self.guard, to);
         }
         holds
     }

@@ -4,6 +4,7 @@ pub mod agreement;
 pub mod campaign;
 pub mod counts;
 pub mod divisions;
+pub mod fillings;
 mod guards;
 pub mod inputs;
 pub mod lists;
@@ -11,6 +12,7 @@ pub mod moves;
 pub mod parts;
 pub mod programs;
 pub mod random;
+pub mod recounts;
 pub mod runs;
 pub mod secrets;
 pub mod single;
@@ -127,11 +129,11 @@ pub fn show(spaces: &Spaces, varnode: &Varnode, place: &mut [u64]) -> u64 {
     }
 }
 
-/// The three spaces of a run, or their labels.
-pub struct LentSpaces<'a> {
-    pub unique: &'a mut [u8],
-    pub register: &'a mut [u8],
-    pub ram: &'a mut [u8],
+/// The three spaces of a run, their labels, or the counts of these.
+pub struct LentSpaces<'a, T = u8> {
+    pub unique: &'a mut [T],
+    pub register: &'a mut [T],
+    pub ram: &'a mut [T],
 }
 
 /// The interpreter's answer to a call of `undrelvoa_run`.
@@ -172,11 +174,12 @@ pub fn labelled_run(
     settings: &[u64],
     memory: LentSpaces,
     labels: LentSpaces,
+    counts: LentSpaces<u64>,
     log: &mut [u64],
     report: &mut [u64],
 ) -> u64 {
-    // SAFETY: each pointer and length are those of one slice, lent to this call alone; the ten
-    // slices do not overlap.
+    // SAFETY: each pointer and length are those of one slice, lent to this call alone; the
+    // thirteen slices do not overlap.
     unsafe {
         undrelvoa_labelled_run(
             settings.as_ptr(),
@@ -197,6 +200,12 @@ pub fn labelled_run(
             labels.register.len(),
             labels.ram.as_mut_ptr(),
             labels.ram.len(),
+            counts.unique.as_mut_ptr(),
+            counts.unique.len(),
+            counts.register.as_mut_ptr(),
+            counts.register.len(),
+            counts.ram.as_mut_ptr(),
+            counts.ram.len(),
             log.as_mut_ptr(),
             log.len(),
             report.as_mut_ptr(),
@@ -211,6 +220,7 @@ pub struct LentBuffers<'a> {
     pub list: &'a [u64],
     pub memory: LentSpaces<'a>,
     pub labels: LentSpaces<'a>,
+    pub counts: LentSpaces<'a, u64>,
     pub log: &'a mut [u64],
     pub journal: &'a mut [u64],
     pub report: &'a mut [u64],
@@ -218,9 +228,9 @@ pub struct LentBuffers<'a> {
 
 /// The interpreter's answer to a call of `undrelvoa_speculative_run`.
 pub fn speculative_run(start: u64, budget: u32, window: u64, lent: LentBuffers) -> u64 {
-    let LentBuffers { settings, list, memory, labels, log, journal, report } = lent;
-    // SAFETY: each pointer and length are those of one slice, lent to this call alone; the eleven
-    // slices do not overlap.
+    let LentBuffers { settings, list, memory, labels, counts, log, journal, report } = lent;
+    // SAFETY: each pointer and length are those of one slice, lent to this call alone; the
+    // fourteen slices do not overlap.
     unsafe {
         undrelvoa_speculative_run(
             settings.as_ptr(),
@@ -242,10 +252,41 @@ pub fn speculative_run(start: u64, budget: u32, window: u64, lent: LentBuffers) 
             labels.register.len(),
             labels.ram.as_mut_ptr(),
             labels.ram.len(),
+            counts.unique.as_mut_ptr(),
+            counts.unique.len(),
+            counts.register.as_mut_ptr(),
+            counts.register.len(),
+            counts.ram.as_mut_ptr(),
+            counts.ram.len(),
             log.as_mut_ptr(),
             log.len(),
             journal.as_mut_ptr(),
             journal.len(),
+            report.as_mut_ptr(),
+            report.len(),
+        )
+    }
+}
+
+/// The interpreter's answer to a call of `undrelvoa_count_secrets`.
+pub fn count_secrets(labels: [&[u8]; 3], counts: LentSpaces<u64>, report: &mut [u64]) -> u64 {
+    let [unique_labels, register_labels, ram_labels] = labels;
+    // SAFETY: each pointer and length are those of one slice, lent to this call alone; the seven
+    // slices do not overlap.
+    unsafe {
+        undrelvoa_count_secrets(
+            unique_labels.as_ptr(),
+            unique_labels.len(),
+            register_labels.as_ptr(),
+            register_labels.len(),
+            ram_labels.as_ptr(),
+            ram_labels.len(),
+            counts.unique.as_mut_ptr(),
+            counts.unique.len(),
+            counts.register.as_mut_ptr(),
+            counts.register.len(),
+            counts.ram.as_mut_ptr(),
+            counts.ram.len(),
             report.as_mut_ptr(),
             report.len(),
         )
@@ -289,11 +330,12 @@ pub fn labelled_step(
     settings: &[u64],
     memory: LentSpaces,
     labels: LentSpaces,
+    counts: LentSpaces<u64>,
     log: &mut [u64],
     report: &mut [u64],
 ) -> u64 {
-    // SAFETY: each pointer and length are those of one slice, lent to this call alone; the ten
-    // slices do not overlap.
+    // SAFETY: each pointer and length are those of one slice, lent to this call alone; the
+    // thirteen slices do not overlap.
     unsafe {
         undrelvoa_labelled_step(
             settings.as_ptr(),
@@ -313,6 +355,12 @@ pub fn labelled_step(
             labels.register.len(),
             labels.ram.as_mut_ptr(),
             labels.ram.len(),
+            counts.unique.as_mut_ptr(),
+            counts.unique.len(),
+            counts.register.as_mut_ptr(),
+            counts.register.len(),
+            counts.ram.as_mut_ptr(),
+            counts.ram.len(),
             log.as_mut_ptr(),
             log.len(),
             report.as_mut_ptr(),

@@ -310,7 +310,7 @@ mod tests {
         let memory = Spaces { unique: (0..16).collect(), register: vec![], ram: vec![] };
         let mut labels = Spaces::of_lengths(&memory.lengths());
         [1, 4, 5, 6, 7].into_iter().for_each(|place| labels.unique[place] = SECRET);
-        let state = State { memory, labels: Some(labels), log: vec![0; 9] };
+        let state = State::labelled(memory, labels, vec![0; 9]);
         Case { call: RunCall { program, start: 0, budget: 9 }, state }
     }
 

@@ -1,4 +1,4 @@
-//! Random programs to run, with their memory, labels and log: well-formed ones that end in every way,
+//! Random programs to run, with their memory, labels, counts and log: well-formed ones that end in every way,
 //! and damaged ones for every refusal.
 
 use reference::answers::{LentWords, RunCall, VerdictCall};
@@ -18,6 +18,7 @@ use crate::random::Random;
 use crate::runs::Case;
 
 mod branches;
+mod counts;
 mod divisions;
 mod moves;
 mod speculative;
@@ -195,7 +196,8 @@ impl Programs {
         };
         let program = Program { settings, list: list_of(&draft.entries) };
         let call = RunCall { program, start, budget: 0 };
-        Case { call, state: State { memory, labels: Some(labels), log: vec![] } }
+        let counts = self.counts(&labels);
+        Case { call, state: State { memory, labels: Some(labels), counts, log: vec![] } }
     }
 
     fn lengths(&mut self) -> Lengths {
@@ -430,6 +432,7 @@ impl Programs {
             7..=10 => self.damage_label(&mut case.state),
             11..=14 => case.call.start = self.start_beyond(case.call.program.count()),
             15 => self.lists.damage_order(&mut case.call.program.list),
+            16..=18 => self.damage_counts(&mut case.state),
             _ => self.damage_operation(case),
         }
     }

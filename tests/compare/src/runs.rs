@@ -5,10 +5,11 @@ use std::fmt;
 use reference::answers::{run_answer, LentWords, RunCall};
 use reference::list::WORDS_PER_OPERATION;
 use reference::machine::State;
+use reference::memory::Spaces;
 use reference::run::Observed;
 
 use crate::agreement::RESULT_WORDS;
-use crate::guards::{guard_word, Guarded, GuardedSpaces};
+use crate::guards::{guard_byte, guard_word, Guarded, GuardedSpaces};
 use crate::{labelled_run, labelled_step, run, settings_words, step};
 
 /// Which of the interpreter's calls to make: each has a plain and a labelled form.
@@ -27,11 +28,10 @@ pub struct Case {
 }
 
 impl Case {
-    /// The same without labels.
+    /// The same without labels and counts.
     pub fn plain(&self) -> Case {
-        let mut plain = self.clone();
-        plain.state.labels = None;
-        plain
+        let Case { call, state: State { memory, log, .. } } = self.clone();
+        Case { call, state: State::plain(memory, log) }
     }
 }
 
@@ -52,8 +52,10 @@ pub fn interpreter_answer(
 ) -> u64 {
     let mut guarded_settings = Guarded::around(settings, guard_word);
     let mut settings_after = settings.to_vec();
-    let mut memory = GuardedSpaces::around(&state.memory);
-    let mut labels = state.labels.as_ref().map(GuardedSpaces::around);
+    let mut memory = GuardedSpaces::around(state.memory.all(), guard_byte);
+    let around_labels = |labels: &Spaces| GuardedSpaces::around(labels.all(), guard_byte);
+    let mut labels = state.labels.as_ref().map(around_labels);
+    let mut counts = GuardedSpaces::around(state.counts.all(), guard_word);
     let mut log = Guarded::around(&state.log, guard_word);
     let mut guarded_report = Guarded::around(report, guard_word);
     let answer = {
@@ -63,17 +65,19 @@ pub fn interpreter_answer(
             (Job::Run, None) => run(call, settings, memory, log, report),
             (Job::Step, None) => step(call, settings, memory, log, report),
             (Job::Run, Some(labels)) => {
-                labelled_run(call, settings, memory, labels.lent(), log, report)
+                labelled_run(call, settings, memory, labels.lent(), counts.lent(), log, report)
             }
             (Job::Step, Some(labels)) => {
-                labelled_step(call, settings, memory, labels.lent(), log, report)
+                labelled_step(call, settings, memory, labels.lent(), counts.lent(), log, report)
             }
         }
     };
+    let labels_after = state.labels.as_mut().map(Spaces::all_mut);
     let guards = [
         ("settings", guarded_settings.give_back(guard_word, &mut settings_after)),
-        ("memory", memory.give_back(&mut state.memory)),
-        ("labels", labels.zip(state.labels.as_mut()).is_none_or(|(from, to)| from.give_back(to))),
+        ("memory", memory.give_back(state.memory.all_mut())),
+        ("labels", labels.zip(labels_after).is_none_or(|(from, to)| from.give_back(to))),
+        ("counts", counts.give_back(state.counts.all_mut())),
         ("log", log.give_back(guard_word, &mut state.log)),
         ("report", guarded_report.give_back(guard_word, report)),
     ];
@@ -138,7 +142,7 @@ pub fn check_run(
     expected_report.ok()
 }
 
-/// A call in words: the first operations of its list, and all bytes and labels of short spaces.
+/// A call in words: the first operations of its list, and all bytes, labels and counts of short spaces.
 pub(crate) fn description(call: &RunCall, state: &State) -> String {
     let RunCall { program, start, budget } = call;
     let mut lines = format!("{:x?}, start {start}, budget {budget}\n", program.settings);
@@ -150,6 +154,9 @@ pub(crate) fn description(call: &RunCall, state: &State) -> String {
         for space in spaces.all().into_iter().filter(|space| space.len() <= 100) {
             lines += &format!("{space:x?}\n");
         }
+    }
+    for words in state.counts.all().into_iter().filter(|words| words.len() <= 10) {
+        lines += &format!("counts {words:x?}\n");
     }
     lines
 }
@@ -167,6 +174,12 @@ pub(crate) fn differences(state: &State, other: &State) -> String {
             for (offset, (byte, _)) in different(space, other) {
                 lines += &format!("  {name} of space {number} at {offset}: {byte:#x}\n");
             }
+        }
+    }
+    let counts = state.counts.all().into_iter().zip(other.counts.all());
+    for (number, (words, other)) in (2..).zip(counts) {
+        for (place, (word, _)) in different(words, other) {
+            lines += &format!("  count {place} of space {number}: {word:#x}\n");
         }
     }
     for (place, (word, _)) in different(&state.log, &other.log) {

@@ -8,7 +8,6 @@ use reference::machine::State;
 use reference::memory::{Spaces, SECRET};
 
 use crate::programs::Programs;
-use crate::random::Random;
 use crate::runs::{interpreter_report, Case, Job};
 
 /// The labels of a labelled state.
@@ -16,12 +15,12 @@ pub fn labels(state: &State) -> &Spaces {
     state.labels.as_ref().expect("a labelled state")
 }
 
-/// The same state with other secret bytes, and with other words in the log.
-pub fn with_other_secrets(state: &State, random: &mut Random) -> State {
-    let mut other = state.clone();
+/// The same state with other secret bytes, and with other words in log and counts.
+pub fn with_other_secrets(state: &State, programs: &mut Programs) -> State {
+    let mut other = State { counts: programs.other_counts(state), ..state.clone() };
     for (space, labels) in zip(other.memory.all_mut(), labels(state).all()) {
         for (byte, _) in zip(space, labels).filter(|(_, &label)| label == SECRET) {
-            *byte = random.word() as u8;
+            *byte = programs.random().word() as u8;
         }
     }
     other.log.iter_mut().for_each(|word| *word = !*word);
@@ -62,7 +61,7 @@ pub fn written_log<'a>(state: &'a State, report: &[u64; 5]) -> &'a [u64] {
 pub fn memory_pair(programs: &mut Programs, draw: fn(&mut Programs) -> Case) -> [Case; 2] {
     loop {
         let one = draw(programs);
-        let state = with_other_secrets(&one.state, programs.random());
+        let state = with_other_secrets(&one.state, programs);
         let other = Case { state, ..one.clone() };
         if one.state.memory != other.state.memory {
             return [one, other];
@@ -84,9 +83,9 @@ pub fn check_pair(before: &[Case; 2]) -> ([Case; 2], [u64; 5]) {
 }
 
 /// Fails unless the plain run does what the labelled run did, where that did not end with LEAK and
-/// did not refuse its labels.
+/// did not refuse its labels or counts.
 fn assert_plain_run_is_the_same(before: &Case, after: &Case, report: &[u64; 5]) {
-    if report[0] == LEAK || !labels_hold(&before.state.memory, labels(&before.state)) {
+    if report[0] == LEAK || !labels_hold(&before.state) {
         return;
     }
     let mut plain = before.plain();
@@ -97,8 +96,10 @@ fn assert_plain_run_is_the_same(before: &Case, after: &Case, report: &[u64; 5]) 
     assert!(agrees, "other memory, plain and labelled, after\n{before}");
 }
 
-/// Whether each byte of the spaces has one label, public or secret.
-fn labels_hold(memory: &Spaces, labels: &Spaces) -> bool {
+/// Whether each byte of the spaces has one label, public or secret, and the counts are long enough.
+fn labels_hold(state: &State) -> bool {
+    let (labels, lengths) = (labels(state), state.memory.lengths());
     let are_labels = |space: &Vec<u8>| space.iter().all(|&label| label <= SECRET);
-    memory.lengths() == labels.lengths() && labels.all().into_iter().all(are_labels)
+    let are_all_labels = labels.lengths() == lengths && labels.all().into_iter().all(are_labels);
+    are_all_labels && state.counts.hold(&lengths)
 }

@@ -15,14 +15,19 @@ use crate::agreement::Tally;
 use crate::runs::{check_run, Case, Job};
 use crate::speculations::{check_speculation, Speculation};
 
-/// A word of log and journal as it is lent.
+/// A word of log, journal and counts as it is lent.
 const LENT_WORD: u64 = 7;
 
-/// The labelled case of a list.
+/// The labelled case of a list. Its counts hold other words than those of its labels, and there is a word more.
 pub fn case_of(settings: Settings, entries: &[Entry], memory: Spaces, labels: Spaces) -> Case {
     let program = Program { settings, list: list_of(entries) };
     let call = RunCall { program, start: 0, budget: 9 };
-    Case { call, state: State { memory, labels: Some(labels), log: vec![LENT_WORD; 4] } }
+    let mut state = State::labelled(memory, labels, vec![LENT_WORD; 4]);
+    for words in state.counts.all_mut() {
+        words.push(0);
+        words.fill(LENT_WORD);
+    }
+    Case { call, state }
 }
 
 /// A CBRANCH that goes on so many operations further, or at the next one.
@@ -57,7 +62,7 @@ pub fn check_report(job: Job, case: &Case, report: [u64; 5], tally: &mut Tally) 
 }
 
 /// Compares the operations of a case behind a CBRANCH that leaves them out, with a window of so many. Fails
-/// unless it gives this report and leaves bytes and labels as they were.
+/// unless it gives this report and leaves bytes, labels and counts as they were.
 pub fn check_left_out(case: &Case, operations: u64, report: [u64; 5], tally: &mut Tally) {
     let mut case = case.clone();
     let taken = Varnode { space: CONSTANT, offset: 1, size: 1 };
@@ -69,7 +74,7 @@ pub fn check_left_out(case: &Case, operations: u64, report: [u64; 5], tally: &mu
     let found = check_speculation(&mut after, LentWords::EXACT, |_| ());
     assert_eq!(found, Some(report), "the report of\n{before}");
     let [was, is] = [&before, &after].map(|one| &one.case.state);
-    let is_undone = is.memory == was.memory && is.labels == was.labels;
+    let is_undone = (&is.memory, &is.labels, &is.counts) == (&was.memory, &was.labels, &was.counts);
     assert!(is_undone, "a window left something, in\n{before}");
     tally.count(report[0]);
 }

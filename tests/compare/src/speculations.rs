@@ -7,7 +7,7 @@ use reference::machine::State;
 use reference::speculative::{Event, Window};
 
 use crate::agreement::RESULT_WORDS;
-use crate::guards::{guard_word, Guarded, GuardedSpaces};
+use crate::guards::{guard_byte, guard_word, Guarded, GuardedSpaces};
 use crate::runs::{description, differences, different, Case};
 use crate::{settings_words, speculative_run, LentBuffers};
 
@@ -36,12 +36,14 @@ pub fn interpreter_answer(
 ) -> u64 {
     let Speculation { case: Case { call, state }, window } = speculation;
     let RunCall { program, start, budget } = call;
-    let State { memory, labels, log } = state;
+    let State { memory, labels, counts, log } = state;
     let labels = labels.as_mut().expect("a labelled state");
     let [mut settings_after, mut list_after] = [settings, &program.list].map(<[u64]>::to_vec);
     let mut guarded_settings = Guarded::around(settings, guard_word);
     let mut guarded_list = Guarded::around(&program.list, guard_word);
-    let [mut guarded_memory, mut guarded_labels] = [&*memory, labels].map(GuardedSpaces::around);
+    let [mut guarded_memory, mut guarded_labels] =
+        [memory.all(), labels.all()].map(|spaces| GuardedSpaces::around(spaces, guard_byte));
+    let mut guarded_counts = GuardedSpaces::around(counts.all(), guard_word);
     let [mut guarded_log, mut guarded_journal, mut guarded_report] =
         [&log[..], &window.journal, report].map(|lent| Guarded::around(lent, guard_word));
     let lent = LentBuffers {
@@ -49,6 +51,7 @@ pub fn interpreter_answer(
         list: guarded_list.lent(),
         memory: guarded_memory.lent(),
         labels: guarded_labels.lent(),
+        counts: guarded_counts.lent(),
         log: guarded_log.lent(),
         journal: guarded_journal.lent(),
         report: guarded_report.lent(),
@@ -57,8 +60,9 @@ pub fn interpreter_answer(
     let guards = [
         ("settings", guarded_settings.give_back(guard_word, &mut settings_after)),
         ("list", guarded_list.give_back(guard_word, &mut list_after)),
-        ("memory", guarded_memory.give_back(memory)),
-        ("labels", guarded_labels.give_back(labels)),
+        ("memory", guarded_memory.give_back(memory.all_mut())),
+        ("labels", guarded_labels.give_back(labels.all_mut())),
+        ("counts", guarded_counts.give_back(counts.all_mut())),
         ("log", guarded_log.give_back(guard_word, log)),
         ("journal", guarded_journal.give_back(guard_word, &mut window.journal)),
         ("report", guarded_report.give_back(guard_word, report)),

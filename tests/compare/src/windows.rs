@@ -168,7 +168,9 @@ impl<'a> Watch<'a> {
         if operations > LARGEST_WINDOW && judged != SETTING {
             self.windows.add(Event::WindowRefused { window: operations });
         }
-        let other_lengths_hold = judged != LENGTH && labels(self.state).lengths() == lengths;
+        let other_lengths_hold = judged != LENGTH
+            && labels(self.state).lengths() == lengths
+            && self.state.counts.hold(&lengths);
         if ending == LENGTH && other_lengths_hold {
             let is_one_short = journal.len() + 1 == self.window.journal_words();
             self.windows.add(Event::JournalRefused);
@@ -386,7 +388,7 @@ mod tests {
         let memory = Spaces { unique: (0..8).collect(), register: vec![], ram: vec![] };
         let mut labels = Spaces::of_lengths(&memory.lengths());
         labels.unique[7] = SECRET;
-        let state = State { memory, labels: Some(labels), log: vec![0; 9] };
+        let state = State::labelled(memory, labels, vec![0; 9]);
         let case = Case { call: RunCall { program, start: 0, budget: 9 }, state };
         Speculation {
             case,

@@ -243,7 +243,7 @@ mod tests {
         let memory = Spaces { unique: vec![0; 2], register: vec![1; 8], ram: vec![0; 8] };
         let mut labels = Spaces::of_lengths(&memory.lengths());
         labels.register.fill(SECRET);
-        let state = State { memory, labels: Some(labels), log: vec![0; 1] };
+        let state = State::labelled(memory, labels, vec![0; 1]);
         Case { call: RunCall { program, start: 0, budget: 1 }, state }
     }
 

@@ -307,14 +307,20 @@ fn resumed_runs_are_one_run() {
 fn plain_case(operations: &[[u64; 5]], start: u64, budget: u32, memory: Spaces) -> Case {
     let settings = Settings { order: 0, address_size: 8, wordsizes: Wordsizes::ONE };
     let program = Program { settings, list: operations.concat() };
-    let state = State { memory, labels: None, log: vec![7; 4] };
+    let state = State::plain(memory, vec![7; 4]);
     Case { call: RunCall { program, start, budget }, state }
+}
+
+/// The same with public labels.
+fn with_public_labels(case: &Case) -> Case {
+    let Case { call, state: State { memory, log, .. } } = case.clone();
+    let labels = Spaces::of_lengths(&memory.lengths());
+    Case { call, state: State::labelled(memory, labels, log) }
 }
 
 /// Compares a case, plain and with public labels, and gives back its report and its state.
 fn check_both(case: Case) -> ([u64; 5], State) {
-    let mut labelled = case.state.clone();
-    labelled.labels = Some(Spaces::of_lengths(&labelled.memory.lengths()));
+    let mut labelled = with_public_labels(&case).state;
     let report = check_run(Job::Run, &case.call, &mut labelled, LentWords::EXACT, |_| ());
     let mut plain = case.state;
     assert_eq!(check_run(Job::Run, &case.call, &mut plain, LentWords::EXACT, |_| ()), report);
@@ -402,8 +408,7 @@ fn wrong_numbers_of_words_are_refused() {
     for order in [0, 2] {
         let mut plain = plain_case(&[OVERLAPPING_COPY], 0, 9, unique_only(&[1, 2, 3, 4]));
         plain.call.program.settings.order = order;
-        let mut labelled = plain.clone();
-        labelled.state.labels = Some(Spaces::of_lengths(&plain.state.memory.lengths()));
+        let labelled = with_public_labels(&plain);
         for (job, case) in
             [Job::Run, Job::Step].into_iter().flat_map(|job| [(job, &plain), (job, &labelled)])
         {

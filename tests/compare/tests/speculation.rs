@@ -227,9 +227,10 @@ fn assert_is_labelled_run(before: &Speculation, after: &Speculation, report: &[u
     assert_eq!(own, own_log, "the log words, but for marked ones, on\n{before}");
     let [lent, left] = [before, after].map(|one| &one.case.state.log[written.len()..]);
     assert_eq!(left, lent, "log words that were not written, after\n{before}");
-    let State { memory, labels, .. } = &after.case.state;
+    let State { memory, labels, counts, .. } = &after.case.state;
     assert!(*memory == labelled.state.memory, "other memory than the labelled run's\n{before}");
     assert!(*labels == labelled.state.labels, "other labels than the labelled run's\n{before}");
+    assert!(*counts == labelled.state.counts, "other counts than the labelled run's\n{before}");
 }
 
 #[test]
@@ -277,7 +278,7 @@ fn memory_pair(programs: &mut Programs) -> [Speculation; 2] {
             _ => programs.well_formed_speculation(),
         };
         let mut other = one.clone();
-        other.case.state = with_other_secrets(&one.case.state, programs.random());
+        other.case.state = with_other_secrets(&one.case.state, programs);
         other.window.journal.iter_mut().for_each(|word| *word = !*word);
         if one.case.state.memory != other.case.state.memory {
             return [one, other];
@@ -391,7 +392,7 @@ fn speculation(operations: &[[u64; 5]], window: u64, room: usize) -> Speculation
     let memory = Spaces { unique: (0..32).collect(), register: vec![9; 8], ram: vec![1; 16] };
     let mut labels = Spaces::of_lengths(&memory.lengths());
     labels.register.fill(SECRET);
-    let state = State { memory, labels: Some(labels), log: vec![LENT_WORD; room] };
+    let state = State::labelled(memory, labels, vec![LENT_WORD; room]);
     let case = Case { call: RunCall { program, start: 0, budget: 99 }, state };
     Speculation { case, window: lent_window(window, 4 * window + 2) }
 }
@@ -500,15 +501,15 @@ fn table_speculation(settings: Settings, operations: &[[u64; 5]], window: u64) -
     let mut speculation = speculation(operations, window, 4);
     speculation.case.call.program.settings = settings;
     let secret = 16 * wordsizes.ram as usize;
-    let State { memory, labels, .. } = &mut speculation.case.state;
+    let State { mut memory, log, .. } = speculation.case.state;
     memory.unique.fill(0);
     let index = if order == 0 { 0 } else { address_size as usize - 1 };
     memory.unique[index] = 16;
     memory.ram = vec![0; secret + 8];
     memory.ram[secret..].fill(0x5a);
-    let mut secret_labels = Spaces::of_lengths(&memory.lengths());
-    secret_labels.ram[secret..].fill(SECRET);
-    *labels = Some(secret_labels);
+    let mut labels = Spaces::of_lengths(&memory.lengths());
+    labels.ram[secret..].fill(SECRET);
+    speculation.case.state = State::labelled(memory, labels, log);
     speculation
 }
 

@@ -1,4 +1,4 @@
-//! The stored vectors: `undrelvoa_speculative_run` and the second program leave what is stored, and
+//! The stored vectors: the calls of the C interface and the second program leave what is stored, and
 //! `vectors/README.md` has their titles.
 
 use std::collections::BTreeMap;
@@ -6,7 +6,8 @@ use std::env;
 use std::fs;
 use std::path::{Path, PathBuf};
 
-use compare::runs::Case;
+use compare::fillings::filling_report;
+use compare::runs::{interpreter_report, Case, Job};
 use compare::speculations::{speculative_report, Speculation};
 use compare::stored::{names_in, read, StoredCase, FILES};
 use reference::vector::{output, Vector};
@@ -38,11 +39,25 @@ fn check(what: &str, leave: fn(&str) -> Result<String, String>) {
 
 /// What the interpreter leaves for the text of a vector.
 fn left_by_interpreter(text: &str) -> Result<String, String> {
-    let Vector { call, state, window } = Vector::read(text)?;
-    let mut speculation = Speculation { case: Case { call, state }, window };
-    let report = speculative_report(&mut speculation);
-    let Speculation { case: Case { call, state }, window } = speculation;
-    Ok(Vector { call, state, window }.printed(&report))
+    let (report, left) = match Vector::read(text)? {
+        Vector::Run { call, state, window: Some(window) } => {
+            let mut speculation = Speculation { case: Case { call, state }, window };
+            let report = speculative_report(&mut speculation);
+            let Speculation { case: Case { call, state }, window } = speculation;
+            (report, Vector::Run { call, state, window: Some(window) })
+        }
+        Vector::Run { call, state, window: None } => {
+            let mut case = Case { call, state };
+            let report = interpreter_report(Job::Run, &mut case);
+            let Case { call, state } = case;
+            (report, Vector::Run { call, state, window: None })
+        }
+        Vector::CountSecrets { labels, mut counts } => {
+            let report = filling_report(&labels, &mut counts);
+            (report, Vector::CountSecrets { labels, counts })
+        }
+    };
+    Ok(left.printed(&report))
 }
 
 #[test]
@@ -53,6 +68,16 @@ fn stored_vectors() {
 #[test]
 fn second_program_on_stored_vectors() {
     check("second program", output);
+}
+
+#[test]
+fn headings_are_the_calls() {
+    for (name, vector) in stored() {
+        let input = String::from_utf8_lossy(&vector.input).into_owned();
+        let call = input.lines().next().and_then(|line| line.strip_prefix("call "));
+        let heading = name.split('/').next();
+        assert_eq!(call, heading, "the call of vectors/{name}, and its heading");
+    }
 }
 
 #[test]

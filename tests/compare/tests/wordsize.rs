@@ -156,7 +156,7 @@ impl Access {
         let accessed = &mut labels.all_mut()[self.space as usize - 2];
         accessed.iter_mut().step_by(2).for_each(|label| *label = SECRET);
         let call = RunCall { program: Program { settings, list }, start: 0, budget: 9 };
-        Case { call, state: State { memory, labels: Some(labels), log: vec![LENT_LOG_WORD; 2] } }
+        Case { call, state: State::labelled(memory, labels, vec![LENT_LOG_WORD; 2]) }
     }
 
     /// The space of the value that is loaded or stored, which is not the one accessed.
@@ -327,8 +327,8 @@ fn cases_of_later_endings() -> [(Case, u64); 6] {
     head.call.program.list[0] = 0;
     start.call.start = 2;
     empty.call.program.list.clear();
-    empty.state.memory = Spaces { unique: vec![], register: vec![], ram: vec![] };
-    empty.state.labels = Some(empty.state.memory.clone());
+    let no_bytes = Spaces { unique: vec![], register: vec![], ram: vec![] };
+    empty.state = State::labelled(no_bytes.clone(), no_bytes, empty.state.log);
     [(good, END), (length, LENGTH), (label, LABEL), (head, HEAD), (start, START), (empty, END)]
 }
 

@@ -4,8 +4,10 @@ use std::ops::Range;
 
 use crate::arithmetic::{fits, value};
 use crate::bytes::{read, write, ByteOrder};
+use crate::counts::{count_secrets, SecretCounts};
 use crate::fault;
 use crate::machine::State;
+use crate::memory::Spaces;
 use crate::opcodes::{Operation, Sizes, ANY_ADDRESS_SIZE};
 use crate::run::{observed_run, Observed, Program};
 use crate::speculative::{speculative_run, Event, Window};
@@ -159,6 +161,19 @@ pub fn speculative_answer(
     Ok(speculative_run(program, *start, *budget, window, state, observer).numbers())
 }
 
+/// The report of the call that fills the counts, for a caller who lends so many report words. A refused call
+/// leaves the counts as they are.
+pub fn count_answer(
+    labels: &Spaces,
+    counts: &mut SecretCounts,
+    report_len: usize,
+) -> Result<[u64; 5], u64> {
+    if report_len < LentWords::EXACT.report {
+        return Err(fault::LENGTH);
+    }
+    Ok(count_secrets(labels, counts).numbers())
+}
+
 /// The space, the offset and the bytes of the part that is shown, all 0 for an empty one, for a
 /// caller who lends `place_len` place words.
 pub fn show_answer(
@@ -184,7 +199,6 @@ fn range_within(place: &Place, len: usize) -> Option<Range<usize>> {
 #[cfg(test)]
 mod tests {
     use super::*;
-    use crate::memory::Spaces;
     use crate::varnode::Wordsizes;
 
     /// INT_DIV at size 2, 100 by 7.
@@ -289,7 +303,7 @@ mod tests {
         let copy = vec![0x11_21_01, 0, 9, 0, 0];
         let call = RunCall { program: Program { settings, list: copy }, start: 0, budget: 1 };
         let memory = Spaces { unique: vec![0], register: vec![], ram: vec![] };
-        let mut state = State { memory, labels: None, log: vec![] };
+        let mut state = State::plain(memory, vec![]);
         let lent = |settings, report| LentWords { settings, report };
         for lent in [lent(5, 4), lent(2, 5), lent(4, 5), lent(6, 5)] {
             assert_eq!(run_answer(&call, &mut state, lent, |_| ()), Err(11));
@@ -297,6 +311,23 @@ mod tests {
         }
         assert_eq!(run_answer(&call, &mut state, LentWords::EXACT, |_| ()), Ok([0, 1, 1, 0, 0]));
         assert_eq!(state.memory.unique, [9]);
+    }
+
+    #[test]
+    fn a_filling_with_a_short_report_is_refused() {
+        let mut labels = Spaces { unique: vec![1], register: vec![], ram: vec![] };
+        let zeros = SecretCounts { unique: vec![0; 2], register: vec![0], ram: vec![0] };
+        let mut counts = zeros.clone();
+        for report_len in 0..5 {
+            assert_eq!(count_answer(&labels, &mut counts, report_len), Err(11));
+            assert_eq!(counts, zeros);
+        }
+        assert_eq!(count_answer(&labels, &mut counts, 5), Ok([0; 5]));
+        assert_eq!(counts.unique, [1, 1]);
+        labels.unique[0] = 2;
+        assert_eq!(count_answer(&labels, &mut counts, 5), Ok([12, 0, 0, 0, 0]));
+        counts.ram.clear();
+        assert_eq!(count_answer(&labels, &mut counts, 5), Ok([11, 0, 0, 0, 0]));
     }
 
     #[test]

@@ -83,7 +83,7 @@ impl Case {
         Some(Case {
             program: Program { settings, list: Vec::new() },
             budget: u32::from_be_bytes(budget),
-            state: State { memory: zeros.clone(), labels: Some(zeros), log: vec![0; LOG_WORDS] },
+            state: State::labelled(zeros.clone(), zeros, vec![0; LOG_WORDS]),
         })
     }
 

@@ -3,7 +3,8 @@
 /// A byte order that is neither 0 nor 1, an address size or a wordsize that is not 1 to 8, or a window of
 /// more than 64 operations.
 pub const SETTING: u64 = 10;
-/// A lent buffer that is too short for the result or for a window, or a list or a space of a wrong length.
+/// A lent buffer that is too short for the result, for a window or for counts, or a list or a space of a wrong
+/// length.
 pub const LENGTH: u64 = 11;
 /// A label that is neither 0 nor 1.
 pub const LABEL: u64 = 12;

@@ -9,6 +9,7 @@ pub mod answers;
 pub mod arithmetic;
 pub mod bytes;
 pub mod case;
+pub mod counts;
 pub mod fault;
 pub mod labels;
 pub mod list;

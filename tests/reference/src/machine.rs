@@ -3,6 +3,7 @@
 
 use crate::arithmetic::value;
 use crate::bytes::{self, ByteOrder};
+use crate::counts::SecretCounts;
 use crate::fault;
 use crate::labels::{int_sext, int_zext, labels_of, piece, set_labels, subpiece, whole};
 use crate::list::{Entry, WORDS_PER_OPERATION};
@@ -11,12 +12,26 @@ use crate::opcodes::{Opcode, Operation};
 use crate::varnode::{Varnode, Wordsizes, CONSTANT};
 use crate::verdict::{decoded, Varnodes};
 
-/// What a run is lent to read and write. A plain run has no labels.
+/// What a run is lent to read and write. A plain run has no labels, and no counts of them.
 #[derive(Clone, Debug, PartialEq, Eq)]
 pub struct State {
     pub memory: Spaces,
     pub labels: Option<Spaces>,
+    pub counts: SecretCounts,
     pub log: Vec<u64>,
+}
+
+impl State {
+    /// The state of a plain run.
+    pub fn plain(memory: Spaces, log: Vec<u64>) -> State {
+        State { memory, labels: None, counts: SecretCounts::default(), log }
+    }
+
+    /// The state of a labelled run whose counts are those of its labels.
+    pub fn labelled(memory: Spaces, labels: Spaces, log: Vec<u64>) -> State {
+        let counts = SecretCounts::of(&labels);
+        State { memory, labels: Some(labels), counts, log }
+    }
 }
 
 /// What comes after an operation.
@@ -240,10 +255,12 @@ impl<'a> Machine<'a> {
         let Some(Write { target, value, labels: written }) = write else {
             return;
         };
-        let State { memory, labels, .. } = &mut self.state;
+        let State { memory, labels, counts, .. } = &mut self.state;
         bytes::write(self.order, value, memory.part_mut(&target));
         if let Some((labels, written)) = labels.as_mut().zip(written) {
+            let before = labels.part(&target).to_vec();
             set_labels(self.order, written, labels, &target);
+            counts.follow_write(&labels.lengths(), &target, &before, labels.part(&target));
         }
     }
 }

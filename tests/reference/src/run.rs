@@ -123,7 +123,7 @@ pub(crate) fn refusal(program: &Program, start: u64, state: &State) -> Option<Re
     if !lengths_hold(&lengths, list.len()) || !label_lengths_hold(state) {
         return Some(Report::before_a_run(fault::LENGTH, 0));
     }
-    if !labels_hold(state) {
+    if !state.labels.as_ref().is_none_or(labels_hold) {
         return Some(Report::before_a_run(fault::LABEL, 0));
     }
     let report = verdict(settings, &lengths, list);
@@ -136,16 +136,18 @@ pub(crate) fn refusal(program: &Program, start: u64, state: &State) -> Option<Re
     None
 }
 
-/// Rule 11 LENGTH for labels: each space has as many as it has bytes.
+/// Rule 11 LENGTH for labels and their counts: each space has as many labels as it has bytes, and enough words
+/// to count them.
 fn label_lengths_hold(state: &State) -> bool {
-    state.labels.as_ref().is_none_or(|labels| labels.lengths() == state.memory.lengths())
+    let State { memory, labels, counts, .. } = state;
+    let lengths = memory.lengths();
+    labels.as_ref().is_none_or(|labels| labels.lengths() == lengths && counts.hold(&lengths))
 }
 
 /// Rule 12 LABEL.
-fn labels_hold(state: &State) -> bool {
+pub(crate) fn labels_hold(labels: &Spaces) -> bool {
     let are_labels = |space: &Vec<u8>| space.iter().all(|&label| matches!(label, PUBLIC | SECRET));
-    let all_are_labels = |labels: &Spaces| labels.all().into_iter().all(are_labels);
-    state.labels.as_ref().is_none_or(all_are_labels)
+    labels.all().into_iter().all(are_labels)
 }
 
 #[cfg(test)]
@@ -189,13 +191,13 @@ mod tests {
     fn state(unique: &[u8], register: &[u8], ram: &[u8]) -> State {
         let memory =
             Spaces { unique: unique.to_vec(), register: register.to_vec(), ram: ram.to_vec() };
-        State { memory, labels: None, log: vec![7; 4] }
+        State::plain(memory, vec![7; 4])
     }
 
     /// The same state with public labels only.
-    fn labelled(mut state: State) -> State {
-        state.labels = Some(Spaces::of_lengths(&state.memory.lengths()));
-        state
+    fn labelled(State { memory, log, .. }: State) -> State {
+        let labels = Spaces::of_lengths(&memory.lengths());
+        State::labelled(memory, labels, log)
     }
 
     fn labels(state: &mut State) -> &mut Spaces {
@@ -224,6 +226,8 @@ mod tests {
         assert_eq!(labels(&mut state).unique, with(&[(4, SECRET)]));
         assert_eq!(labels(&mut state).register, with(&[(8, SECRET)]));
         assert_eq!(labels(&mut state).ram, with(&[(5, SECRET)]));
+        // The counts began with those of public labels.
+        assert_eq!(state.counts.all(), [&vec![1, 1], &vec![1, 1], &vec![0, 0]]);
     }
 
     #[test]
@@ -670,6 +674,78 @@ mod tests {
                 assert_eq!(labels(&mut state).ram, [0, 0, 0, expected[3]]);
             }
         }
+    }
+
+    /// A state with 70 bytes of unique, labels as given from byte 62 on, and counts of 100, 200 and 300.
+    fn counted_state(labels_from_62: [u8; 4]) -> State {
+        let mut state = labelled(state(&[5; 70], &[0; 8], &[]));
+        labels(&mut state).unique[62..66].copy_from_slice(&labels_from_62);
+        state.counts.unique = vec![100, 200, 300, 7];
+        state
+    }
+
+    #[test]
+    fn counts_follow_each_label_that_an_operation_changes() {
+        // COPY of bytes 62 to 65 of unique to 66 to 69, of a constant over them, and of bytes 66 to 69 back.
+        let [there, over, back] =
+            [[0x24_24_01, 66, 62, 0, 0], [0x14_24_01, 62, 5, 0, 0], [0x24_24_01, 62, 66, 0, 0]];
+        let counts_after = |operations: &[[u64; 5]], labels_from_62| {
+            let mut state = counted_state(labels_from_62);
+            let lent = state.counts.clone();
+            assert_eq!(run(&program(LITTLE, operations), 0, 9, &mut state).ending, END);
+            assert_eq!((&state.counts.register, &state.counts.ram), (&lent.register, &lent.ram));
+            let [words @ .., further] = &state.counts.unique[..] else { panic!("four words") };
+            assert_eq!(*further, 7);
+            words.to_vec()
+        };
+        assert_eq!(counts_after(&[there], [1, 1, 1, 0]), [100, 203, 303]);
+        assert_eq!(counts_after(&[over], [1, 1, 1, 0]), [98, 199, 297]);
+        assert_eq!(counts_after(&[over], [0, 0, 0, 0]), [100, 200, 300]);
+        assert_eq!(counts_after(&[there, over], [1, 0, 1, 1]), [99, 201, 300]);
+        assert_eq!(counts_after(&[there, over, back], [1, 0, 1, 1]), [100, 203, 303]);
+        assert_eq!(counts_after(&[there, there], [0, 1, 0, 0]), [100, 201, 301]);
+        assert_eq!(counts_after(&[], [1, 1, 1, 1]), [100, 200, 300]);
+    }
+
+    #[test]
+    fn what_is_stopped_moves_no_count() {
+        let mut before = counted_state([1, 1, 1, 1]);
+        before.memory.unique[1] = 0;
+        assert_eq!(stopped(DIVISION, &before), fault::ZERO);
+        labels(&mut before).unique[0] = SECRET;
+        assert_eq!(stopped(DIVISION, &before), fault::LEAK);
+    }
+
+    #[test]
+    fn counts_that_are_too_short_are_length() {
+        let mut state = labelled(state(&[0; 65], &[0; 64], &[]));
+        let mut program = program(LITTLE, &[]);
+        let ending = |program: &Program, state: &State| {
+            let mut after = state.clone();
+            let report = run(program, 9, 9, &mut after);
+            assert_eq!(&after, state);
+            report.ending
+        };
+        let exact = state.counts.clone();
+        assert_eq!(exact.all().map(Vec::len), [3, 2, 1]);
+        assert_eq!(ending(&program, &state), fault::START);
+        for space in 0..3 {
+            state.counts = exact.clone();
+            state.counts.all_mut()[space].push(0);
+            assert_eq!(ending(&program, &state), fault::START);
+            let words = exact.all()[space].len();
+            state.counts.all_mut()[space].truncate(words - 1);
+            assert_eq!(ending(&program, &state), fault::LENGTH);
+            labels(&mut state).unique[0] = 2;
+            assert_eq!(ending(&program, &state), fault::LENGTH);
+            program.settings.order = 2;
+            assert_eq!(ending(&program, &state), fault::SETTING);
+            program.settings.order = LITTLE;
+            labels(&mut state).unique[0] = PUBLIC;
+        }
+        // A plain run is lent none.
+        let mut plain = State::plain(state.memory.clone(), vec![]);
+        assert_eq!(run(&program, 0, 9, &mut plain).ending, END);
     }
 
     #[test]

@@ -2,10 +2,11 @@
 //! of at most W operations, and is undone.
 //!
 //! Bytes and labels are undone here by keeping them whole, and not by the journal that is lent for it.
-//! Of that only what it is left with is told.
+//! Of that only what it is left with is told. The counts follow each label that this changes.
 
 use crate::fault;
 use crate::machine::{Machine, Next, State};
+use crate::memory::Spaces;
 use crate::run::{self, run_machine, Program};
 use crate::varnode::Varnode;
 use crate::verdict::{settings_hold, Report};
@@ -129,9 +130,16 @@ fn run_window(
     let (closing, at) = go_ahead(machine, other_way, operations, observer);
     observer(Event::Closed { closing, at });
     machine.mark_log_words(0);
-    let State { memory, labels, .. } = machine.state();
-    (*memory, *labels) = before;
+    undo(machine.state(), before);
     closing.outcome()
+}
+
+/// Gives bytes and labels back as they were before a window.
+fn undo(state: &mut State, (memory, labels): (Spaces, Option<Spaces>)) {
+    if let Some((from, to)) = state.labels.as_ref().zip(labels.as_ref()) {
+        state.counts.follow_all(from, to);
+    }
+    (state.memory, state.labels) = (memory, labels);
 }
 
 /// Executes operations until so many are done or the window closes. CBRANCHes open no window here.
@@ -169,7 +177,7 @@ fn go_ahead(
 #[cfg(test)]
 mod tests {
     use super::*;
-    use crate::memory::{Spaces, SECRET};
+    use crate::memory::SECRET;
     use crate::run::{BUDGET, EXIT};
     use crate::varnode::Wordsizes;
     use crate::verdict::{Settings, END, LONGEST_SPACE};
@@ -235,7 +243,7 @@ mod tests {
             Spaces { unique: (0..8).collect(), register: vec![], ram: (0..16).rev().collect() };
         let mut labels = Spaces::of_lengths(&memory.lengths());
         labels.unique[SECRET_PLACE as usize] = SECRET;
-        State { memory, labels: Some(labels), log: vec![LENT; room] }
+        State::labelled(memory, labels, vec![LENT; room])
     }
 
     fn labels(state: &mut State) -> &mut Spaces {
@@ -260,15 +268,16 @@ mod tests {
         report.numbers()
     }
 
-    /// The report and the log words written. Fails unless bytes and labels are left as they were.
+    /// The report and the log words written. Fails unless all else is left as it was.
     fn run_of_windows(operations: &[[u64; 5]], w: u64) -> ([u64; 5], Vec<u64>) {
         let before = state(100);
         let mut after = before.clone();
         let report = run(operations, 1_000, w, &mut after);
-        assert_eq!((after.memory, after.labels), (before.memory, before.labels));
         let (written, further) = after.log.split_at(report[3] as usize);
         assert!(further.iter().all(|&word| word == LENT));
-        (report, written.to_vec())
+        let written = written.to_vec();
+        assert_eq!(State { log: before.log.clone(), ..after }, before);
+        (report, written)
     }
 
     /// The state of a stub that reads a table of 8 bytes in ram, at the index in the first byte of unique.
@@ -452,6 +461,46 @@ mod tests {
     }
 
     #[test]
+    fn reading_22_counts_are_undone_with_the_labels() {
+        // A window that makes byte 0 secret and byte 7 public, twice each, and then ends as its last operation says.
+        let ahead_of = |last| {
+            let there = store(0, SECRET_PLACE);
+            vec![cbranch(6, 1), there, there, copy(7, 0), copy(7, 0), last]
+        };
+        let other = [0xffff_ffff_ffff_ffff, 0, 0x1234];
+        for (last, room, ending) in [
+            (copy(1, 0), 9, END),
+            (load(16), 9, END),
+            (load_by(0), 9, fault::LEAK_AHEAD),
+            (load(0), 3, fault::LOG),
+        ] {
+            for w in [4, 5, 64] {
+                for words in [vec![1, 1], other.to_vec()] {
+                    let mut after = state(room);
+                    after.counts.unique = words.clone();
+                    let found = run(&ahead_of(last), 9, w, &mut after)[0];
+                    assert_eq!(found, if w == 4 { END } else { ending });
+                    assert_eq!(after.counts.unique, words);
+                }
+            }
+        }
+    }
+
+    #[test]
+    fn counts_before_and_after_a_window_are_those_of_the_run() {
+        // Byte 0 becomes secret, the window makes byte 1 secret, and the right way byte 2.
+        let list = [store(0, SECRET_PLACE), cbranch(2, 1), store(1, 0), store(2, 0)];
+        let mut after = state(9);
+        assert_eq!(after.counts.unique, [1, 1]);
+        assert_eq!(run(&list, 9, 9, &mut after), [END, 4, 3, 5, 0]);
+        assert_eq!(after.counts.unique, [3, 3]);
+        // The room ends in the window: of the run only what came before the CBRANCH is left.
+        let mut after = state(2);
+        assert_eq!(run(&list, 9, 9, &mut after), [fault::LOG, 1, 1, 2, 0]);
+        assert_eq!(after.counts.unique, [2, 2]);
+    }
+
+    #[test]
     fn each_cbranch_of_the_right_way_has_a_window() {
         // Three rounds with the counter as pointer. Where a round is the last, its other way is one more.
         let list = [copy(0, 3), load_by(0), [0x11_21_21_16, 0, 0, 1, 0], cbranch_by(-2, 0)];
@@ -605,6 +654,15 @@ mod tests {
         assert_eq!(refused(&program, 9, &window, &state), fault::TARGET);
         program.list = cbranch(1, 1).to_vec();
         assert_eq!(refused(&program, 9, &window, &state), fault::START);
+        state.counts.register.clear();
+        assert_eq!(refused(&program, 9, &window, &state), fault::LENGTH);
+        labels(&mut state).unique[0] = 2;
+        assert_eq!(refused(&program, 9, &window, &state), fault::LENGTH);
+        window.operations = 65;
+        assert_eq!(refused(&program, 9, &window, &state), fault::SETTING);
+        window.operations = 1;
+        state.counts.register = vec![LENT];
+        assert_eq!(refused(&program, 9, &window, &state), fault::LABEL);
         state.memory.ram.resize(LONGEST_SPACE as usize + 1, 0);
         assert_eq!(refused(&program, 9, &window, &state), fault::LENGTH);
     }
@@ -664,10 +722,7 @@ mod tests {
             assert_eq!(own, labelled.log[..own.len()]);
             assert_eq!(own.len() == written.len(), w == 0);
             assert!(further.iter().all(|&word| word == LENT));
-            assert_eq!(
-                (after.memory, after.labels),
-                (labelled.memory.clone(), labelled.labels.clone())
-            );
+            assert_eq!(State { log: vec![], ..after }, State { log: vec![], ..labelled.clone() });
         }
     }
 

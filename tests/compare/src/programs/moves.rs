@@ -13,7 +13,12 @@ impl Programs {
     /// A case that keeps every rule. Its operations are few; most of them move bytes, and the last uses what
     /// was moved.
     pub fn moving_case(&mut self) -> Case {
-        let mut draft = self.draft_for_moves(3, 5);
+        let draft = self.draft_for_moves(3, 5);
+        self.moving_case_of(draft)
+    }
+
+    /// The same from an empty draft of at least three operations.
+    pub(super) fn moving_case_of(&mut self, mut draft: Draft) -> Case {
         self.add_move(&mut draft);
         self.add_move(&mut draft);
         while draft.index() + 1 < draft.frame.count {
@@ -26,16 +31,21 @@ impl Programs {
 
     /// A speculative run that keeps every rule, whose windows mostly have such operations.
     pub fn moving_speculation(&mut self) -> Speculation {
+        let draft = self.draft_for_moves(4, 8);
+        self.moving_speculation_of(draft)
+    }
+
+    /// The same from an empty draft.
+    pub(super) fn moving_speculation_of(&mut self, draft: Draft) -> Speculation {
         let operations = 1 + self.below(8);
-        let case = self.moving_branches_case();
+        let case = self.moving_branches_case(draft);
         let mut speculation = self.with_window(case, operations);
         self.set_limits(&mut speculation);
         speculation
     }
 
-    /// A well-formed case with many branches and moves, without budget and log.
-    fn moving_branches_case(&mut self) -> Case {
-        let mut draft = self.draft_for_moves(4, 8);
+    /// The case of an empty draft with many branches and moves, without budget and log.
+    fn moving_branches_case(&mut self, mut draft: Draft) -> Case {
         while !draft.is_full() {
             self.add_move(&mut draft);
             self.add_guarded(&mut draft, Programs::add_move_or_use);
