@@ -18,7 +18,7 @@ use Rattle.integer.specs.Operations.{int_sub, int_carry, int_scarry, int_sborrow
 use Rattle.integer.specs.Operations.{int_rem, int_sdiv, int_srem, bool_negate, bool_xor, bool_and, bool_or}
 use Rattle.arithmetic.specs.Opcodes.{opcodes, row_of, sizes_of}
 use Rattle.arithmetic.specs.Operands.{Operands, agree, sizes_agree}
-use Rattle.arithmetic.specs.Result.{lookup, integer_results, result}
+use Rattle.arithmetic.specs.Result.{lookup, integer_results, result_of}
 use Rattle.integer.proofs.Booleans.{flag_lt}
 use Rattle.integer.proofs.Whole.{piece_lt}
 use Rattle.integer.proofs.Bits.{popcount_is}
@@ -81,8 +81,8 @@ module _ {opcode size size0 size1 a b : ℕ} (o : Operands opcode size size0 siz
       (wrap_lt size (shr_z (signed size a) (2 ^ b)))
       (either_lt (negative (signed size a)) (256 ^ size - 1) 0 (256 ^ size) (omega (arith, positive)) positive)
 
-  pub result_below : result opcode size size0 size1 a b < 256 ^ size
-  unfolding result integer_results sizes_agree agree sizes_of row_of opcodes subpiece int_equal int_not_equal int_less int_sless
+  pub result_below : result_of opcode size size0 size1 a b < 256 ^ size
+  unfolding result_of integer_results sizes_agree agree sizes_of row_of opcodes subpiece int_equal int_not_equal int_less int_sless
       int_less_equal int_sless_equal int_zext int_sext int_add int_sub int_carry int_scarry int_sborrow int2comp int_negate int_xor int_and
       int_or int_left int_right int_mult int_div int_rem int_sdiv int_srem bool_negate bool_xor bool_and bool_or
   result_below =

@@ -48,5 +48,5 @@ integer_results size size0 size1 a b =
     ∷ []
 
 -- The value of an opcode, from the tables of all families: `size` bytes of output, inputs of size0 and size1 bytes with the values a and b.
-unfoldable pub result : (opcode size size0 size1 a b : ℕ) → ℕ
-result opcode size size0 size1 a b = lookup opcode (integer_results size size0 size1 a b)
+unfoldable pub result_of : (opcode size size0 size1 a b : ℕ) → ℕ
+result_of opcode size size0 size1 a b = lookup opcode (integer_results size size0 size1 a b)

@@ -1,7 +1,8 @@
 // The values of the integer operations, by opcode.
+#![tactic(auto)]
 ghost use Rattle.std.specs.Prelude.{◌≡◌};
 ghost use Rattle.arithmetic.specs.Operands.{Operands};
-ghost use Rattle.arithmetic.specs.Result.{lookup, integer_results, result};
+ghost use Rattle.arithmetic.specs.Result.{lookup, integer_results, result_of};
 
 use integer::boolean::flag;
 use integer::{boolean, signed, unsigned};
@@ -13,7 +14,7 @@ pub mod operands;
 // operations has a function of its own.
 pub fn value(opcode: u64, size: u64, size0: u64, size1: u64, a: u64, b: u64) -> u64
     requires { Operands opcode size size0 size1 a b }
-    ensures* { λ r. ⌜ r ≡ result opcode size size0 size1 a b ⌝ }
+    ensures { result ≡ result_of opcode size size0 size1 a b }
 {
     integer_value(opcode, size, size0, size1, a, b)
 }
@@ -21,7 +22,7 @@ pub fn value(opcode: u64, size: u64, size0: u64, size1: u64, a: u64, b: u64) -> 
 // The integer operations.
 fn integer_value(opcode: u64, size: u64, size0: u64, size1: u64, a: u64, b: u64) -> u64
     requires { Operands opcode size size0 size1 a b }
-    ensures* { λ r. ⌜ r ≡ lookup opcode (integer_results size size0 size1 a b) ⌝ }
+    ensures { result ≡ lookup opcode (integer_results size size0 size1 a b) }
 {
     match opcode {
         10 => unsigned::piece(size1, a, b),

@@ -1,4 +1,5 @@
 // Lowercase hexadecimal text.
+#![tactic(auto)]
 ghost use Rattle.std.specs.Prelude.{◌≡◌, ◌+◌, ◌≤◌, length};
 ghost use Rattle.case_hexadecimal.specs.Digits.{word_digits, digit_of, all_digits, number_at};
 

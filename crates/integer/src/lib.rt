@@ -1,4 +1,5 @@
 // The values of the integer operations, one by one.
+#![tactic(auto)]
 pub mod boolean;
 pub mod signed;
 pub mod unsigned;

@@ -10,7 +10,7 @@ use lib.Dec.{eqb, leb, ltb}
 use lib.ListN.{length}
 use Rattle.word.specs.Word.{part, value_of, bytes_of}
 use Rattle.word.proofs.Laws.{part_length, part_bytes, value_lt}
-use Rattle.arithmetic.specs.Result.{lookup, integer_results, result}
+use Rattle.arithmetic.specs.Result.{lookup, integer_results, result_of}
 use Rattle.integer.specs.Operations.{flag, piece, subpiece, int_zext}
 use Rattle.arithmetic.specs.Opcodes.{member, opcodes, row_of, outputs, inputs, sizes_of, has_place}
 use Rattle.arithmetic.specs.Operands.{divides, agree, sizes_agree}
@@ -102,7 +102,7 @@ constant_value settings m v e = rw e refl
 -- the other operations, but for PIECE, SUBPIECE and INT_ZEXT
 calculated : (settings : Settings) (op : Operation) (m : Memory) (n : ℕ) → moves op ≡ false
     → bytes_written settings op n (op.input0 ∷ op.input1 ∷ []) m
-    ≡ bytes_of (big_endian settings) n (result op.opcode op.output.size op.input0.size op.input1.size (value_at settings m op.input0) (value_at settings m op.input1))
+    ≡ bytes_of (big_endian settings) n (result_of op.opcode op.output.size op.input0.size op.input1.size (value_at settings m op.input0) (value_at settings m op.input1))
 unfolding bytes_written computed values_of
 calculated settings op m n e = rw e refl
 
@@ -571,11 +571,11 @@ module _ (program : Program) (op : Operation) (at : Position) (labels m : Memory
     bytes_copy e = moved_whole program.settings op m op.output.size op.input0 (rw e refl) bytes (f.fits0 (rw e refl)) (rw e refl) (rw e refl) ∙ rw e refl
 
     bytes_zext : op.opcode ≡ 19 → Bytes op.output.size (op.input0 ∷ [])
-    unfolding operand1 value_written value_moved value_computed result integer_results lookup int_zext moves dropped member branches
+    unfolding operand1 value_written value_moved value_computed result_of integer_results lookup int_zext moves dropped member branches
     bytes_zext e = moved_whole program.settings op m op.output.size op.input0 (rw e refl) bytes (f.fits0 (rw e refl)) (rw e refl) (rw e refl) ∙ rw e refl
 
     bytes_sext : op.opcode ≡ 20 → Bytes op.output.size (op.input0 ∷ [])
-    unfolding operand1 value_written value_moved value_computed result integer_results lookup moves dropped member branches
+    unfolding operand1 value_written value_moved value_computed result_of integer_results lookup moves dropped member branches
     bytes_sext e =
         moved_extended program.settings op m op.output.size op.input0 (rw e refl) bytes (f.fits0 (rw e refl)) e (f.extended e).0 (f.extended e).1 ∙ rw e refl
 
@@ -594,12 +594,12 @@ module _ (program : Program) (op : Operation) (at : Position) (labels m : Memory
         calculated program.settings op m op.output.size e ∙ (let o = no_move op.opcode e in rw (o.0, o.1, o.2) refl)
 
     bytes-piece : op.opcode ≡ 10 → Bytes op.output.size (op.input1 ∷ op.input0 ∷ [])
-    unfolding operand1 value_written value_moved value_computed result integer_results lookup piece moves dropped member branches
+    unfolding operand1 value_written value_moved value_computed result_of integer_results lookup piece moves dropped member branches
     bytes-piece e =
         moved_both program.settings op m op.input0 op.input1 bytes op.output.size (rw e refl) (rw e refl) (rw e refl) (f.fits0 (rw e refl)) f.fits1 ∙ rw e refl
 
     bytes-subpiece : op.opcode ≡ 11 → Bytes op.output.size (op.input0 ∷ [])
-    unfolding operand1 value_written value_moved value_computed result integer_results lookup subpiece moves dropped member branches
+    unfolding operand1 value_written value_moved value_computed result_of integer_results lookup subpiece moves dropped member branches
     bytes-subpiece e =
         moved-part program.settings op m op.output.size op.input0 (rw e refl) bytes (f.fits0 (rw e refl)) op.input1.offset (rw e refl) (rw e refl)
         ∙ ap (λ (k : ℕ). bytes_of (big_endian program.settings) op.output.size (subpiece op.output.size a k)) (sym (constant_value program.settings m op.input1 (f.constant1 e)))

@@ -11,7 +11,7 @@ use Rattle.word.specs.Word.{part, significance, value_of, bytes_of}
 use Rattle.integer.specs.Operations.{int_div}
 use Rattle.arithmetic.specs.Opcodes.{member}
 use Rattle.arithmetic.specs.Operands.{divides}
-use Rattle.arithmetic.specs.Result.{lookup, integer_results, result}
+use Rattle.arithmetic.specs.Result.{lookup, integer_results, result_of}
 use Rattle.operation.specs.declared.layout.Varnode.{Varnode}
 use Rattle.operation.specs.Layout.{operation_count, word_at, head_byte, opcode_at, descriptor_at, offset_at, described_by, varnode_at}
 use Rattle.operation.specs.Rules.{branches, jumps}
@@ -135,7 +135,7 @@ division_reads program i offset m d = rw (d, division_kind (operation_at program
 
 in_order : divided two_divisions 2 (starting 0 0) unlabelled (spaces [] (0xf9 ∷ 0x02 ∷ 0xaa ∷ 0xaa ∷ []) [])
     ≡ 0 ∷ 0xf9 ∷ 0x02 ∷ 1 ∷ 0x7c ∷ 0x02 ∷ []
-unfolding sum tabulate digit part significance value_of bytes_of int_div member divides lookup integer_results result operation_count word_at head_byte
+unfolding sum tabulate digit part significance value_of bytes_of int_div member divides lookup integer_results result_of operation_count word_at head_byte
     opcode_at descriptor_at offset_at described_by varnode_at branches jumps space_of with_space bytes_at written value_at operation_at kind_of sinks tested
     resolved sources target moves values_of computed bytes_written any_secret secret labels_written checked decided advanced resolved_value big_endian
     apply_decision execute_as execute stepped starting unlabelled division_at divided_after divided

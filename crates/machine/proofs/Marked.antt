@@ -7,7 +7,7 @@ use Rattle.integer.specs.Integers.{signed, wrap, negative, overflows, with_sign,
 use Rattle.integer.specs.Operations.{flag, piece, subpiece, popcount, int_add, int_sub, int_carry, int_scarry, int_sborrow, int_left, int_sright, int_sdiv, int_srem}
 use Rattle.arithmetic.specs.Opcodes.{opcodes, row_of, outputs, inputs, sizes_of, has_place, member}
 use Rattle.arithmetic.specs.Operands.{divides, agree, sizes_agree}
-use Rattle.arithmetic.specs.Result.{lookup, integer_results, result}
+use Rattle.arithmetic.specs.Result.{lookup, integer_results, result_of}
 use Rattle.operation.specs.Layout.{operation_count, word_at, head_byte, spare_at, opcode_at, descriptor_at, offset_at, described_by, varnode_at, absent}
 use Rattle.operation.specs.Rules.{breaks_head, describes_varnode, breaks_shape, breaks_shape_at, accesses, branches, jumps, names_space, is_destination, breaks_place, length_of}
 use Rattle.operation.specs.Rules.{beyond, breaks_range, breaks_size, relative_target, target_outside, breaks_target}
@@ -22,7 +22,7 @@ use Rattle.machine.specs.Marked.{Marked}
 
 pub marked : Marked
 unfolding xor sum tabulate digit part significance value_of bytes_of signed wrap negative overflows with_sign quotient remainder flag piece subpiece
-    popcount int_add int_sub int_carry int_scarry int_sborrow int_left int_sright int_sdiv int_srem member divides agree sizes_agree lookup integer_results result operation_count
+    popcount int_add int_sub int_carry int_scarry int_sborrow int_left int_sright int_sdiv int_srem member divides agree sizes_agree lookup integer_results result_of operation_count
     word_at head_byte opcode_at descriptor_at offset_at described_by varnode_at spare_at is_size opcodes row_of outputs inputs sizes_of has_place breaks_head describes_varnode breaks_shape
     breaks_shape_at accesses branches jumps names_space is_destination breaks_place length_of beyond breaks_range breaks_size relative_target target_outside
     breaks_target settings_in_range wordsizes_in_range lengths_in_range any_below any_place size_or_target lowest_rule first_malformed refusal_report malformed lengths_of space_of

@@ -7,7 +7,7 @@ use Rattle.word.specs.Sum.{tabulate}
 use Rattle.word.specs.Word.{significance, bytes_of}
 use Rattle.integer.specs.Operations.{flag}
 use Rattle.arithmetic.specs.Opcodes.{member}
-use Rattle.arithmetic.specs.Result.{result}
+use Rattle.arithmetic.specs.Result.{result_of}
 use Rattle.operation.specs.declared.layout.Varnode.{Varnode}
 use Rattle.operation.specs.Layout.{wordsize_of, operation_count}
 use Rattle.validation.specs.Verdict.{verdict}
@@ -141,7 +141,7 @@ exact_labels big labels op b size = tabulate size (λ i. label_written big label
 
 -- COPY's input0, or the arithmetic's number.
 unfoldable pub value_computed : Operation → (a b : ℕ) → ℕ
-value_computed op a b = cond (eqb op.opcode 1) a (result op.opcode op.output.size op.input0.size op.input1.size a b)
+value_computed op a b = cond (eqb op.opcode 1) a (result_of op.opcode op.output.size op.input0.size op.input1.size a b)
 
 -- The bytes loaded, or STORE's input2.
 unfoldable pub value_moved : Program → Memory → Operation → (b : ℕ) → ℕ

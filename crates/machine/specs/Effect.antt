@@ -5,7 +5,7 @@ use Rattle.word.specs.Word.{significance, bytes_of}
 use Rattle.integer.specs.Operations.{flag}
 use Rattle.arithmetic.specs.Opcodes.{member}
 use Rattle.arithmetic.specs.Operands.{divides}
-use Rattle.arithmetic.specs.Result.{result}
+use Rattle.arithmetic.specs.Result.{result_of}
 use Rattle.operation.specs.declared.layout.Settings.{Settings}
 use Rattle.operation.specs.declared.layout.Varnode.{Varnode}
 use Rattle.operation.specs.Layout.{wordsize_of, opcode_at, absent, varnode_at}
@@ -190,7 +190,7 @@ values_of settings m (v ∷ vs) = value_at settings m v ∷ values_of settings m
 -- The number that an operation computes from the values of its inputs.
 unfoldable pub computed : Operation → (values : List ℕ) → ℕ
 computed op values =
-    result op.opcode op.output.size op.input0.size op.input1.size (get_or values 0 0) (get_or values 1 0)
+    result_of op.opcode op.output.size op.input0.size op.input1.size (get_or values 0 0) (get_or values 1 0)
 
 -- The bytes that an operation writes to its target of `size` bytes, in memory order.
 unfoldable pub bytes_written : Settings → Operation → (size : ℕ) → List Varnode → Memory → List ℕ

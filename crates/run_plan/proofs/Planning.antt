@@ -4,7 +4,7 @@ use borrow.Author.Tests.{eqb-false, not-true, not-false}
 use Rattle.integer.specs.Operations.{flag}
 use Rattle.arithmetic.specs.Opcodes.{member}
 use Rattle.arithmetic.specs.Operands.{divides, Operands}
-use Rattle.arithmetic.specs.Result.{lookup, integer_results, result}
+use Rattle.arithmetic.specs.Result.{lookup, integer_results, result_of}
 use Rattle.operation.specs.declared.layout.Varnode.{Varnode}
 use Rattle.operation.specs.Rules.{accesses, jumps, length_of}
 use Rattle.machine.specs.Program.{Program}
@@ -119,7 +119,7 @@ module _ (program : Program) (m : Memory) (i a b : ℕ) where
     plans_move h = by-access Moved op h.opcode refl refl
 
     plans_branch : Branching op → Branched op
-    unfolding branch_plan planned out_of_bounds divides_by_zero exit_plan destination value_written value_computed result integer_results lookup member
+    unfolding branch_plan planned out_of_bounds divides_by_zero exit_plan destination value_written value_computed result_of integer_results lookup member
     plans_branch h = by_branch Branched op h.opcode h.no_output refl refl refl
 
     plans_data : accesses op.opcode ≡ false → data_plan op i a b ≡ planned program m op i a b
@@ -217,7 +217,7 @@ module _ (op : Operation) (a b n : ℕ) (en : n ≡ op.opcode) (h : Computable o
           positive true e q = absurd (true≢false (sym (rw (q, e) refl) ∙ dividing g))
           positive false e q = let p : b ≡ 0 → ⊥ = eqb-false b 0 e in omega arith
 
-      pub code_computes : (i : ℕ) (r : Plan) (x : ℕ) → x ≡ result n out.size v0.size v1.size a b
+      pub code_computes : (i : ℕ) (r : Plan) (x : ℕ) → x ≡ result_of n out.size v0.size v1.size a b
           → r ≡ record { stop = 0; next = i + 1; due = false; low = 0; target = out; value = x } → r ≡ data_plan op i a b
       unfolding value_computed
       code_computes i r x ex e =

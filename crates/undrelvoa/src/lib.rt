@@ -4,7 +4,7 @@
 ghost use Rattle.std.specs.Prelude.{◌≡◌, cond, eqb, ◌+◌, ◌≤◌, length, set};
 ghost use Rattle.std.proofs.lemmas.List.Edits.{sets};
 ghost use Rattle.word.specs.Word.{part, value_of, bytes_of};
-ghost use Rattle.arithmetic.specs.Result.{result};
+ghost use Rattle.arithmetic.specs.Result.{result_of};
 ghost use Rattle.machine.specs.Memory.{spaces};
 ghost use Rattle.undrelvoa_faults.specs.Faults.{value_fault, gather_fault, scatter_fault, place_fault};
 ghost use Rattle.undrelvoa.specs.Calls.{AnswerPromise, BuffersPromise, LabelledBuffersPromise, SpeculativeBuffersPromise};
@@ -27,8 +27,8 @@ pub extern "C" fn undrelvoa_value(
     b: u64,
     out: &mut [u64],
 ) -> u64
-    ensures* answer { λ r. ⌜ r ≡ value_fault opcode size size0 size1 a b (length out.old) ⌝ }
-    ensures* buffer { λ r. ⌜ out.new ≡ cond (eqb r 0) (set out.old 0 (result opcode size size0 size1 a b)) out.old ⌝ }
+    ensures answer { result ≡ value_fault opcode size size0 size1 a b (length out.old) }
+    ensures buffer { out.new ≡ cond (eqb result 0) (set out.old 0 (result_of opcode size size0 size1 a b)) out.old }
 {
     let fault = of_value(opcode, size, size0, size1, a, b, out.len());
     if fault != 0 {
@@ -46,8 +46,8 @@ pub extern "C" fn undrelvoa_gather(
     size: u64,
     out: &mut [u64],
 ) -> u64
-    ensures* answer { λ r. ⌜ r ≡ gather_fault order (length bytes.now) offset size (length out.old) ⌝ }
-    ensures* buffer { λ r. ⌜ out.new ≡ cond (eqb r 0) (set out.old 0 (value_of (eqb order 1) (part bytes.now offset size))) out.old ⌝ }
+    ensures answer { result ≡ gather_fault order (length bytes.now) offset size (length out.old) }
+    ensures buffer { out.new ≡ cond (eqb result 0) (set out.old 0 (value_of (eqb order 1) (part bytes.now offset size))) out.old }
 {
     let fault = of_gather(order, bytes.len(), offset, size, out.len());
     if fault != 0 {
@@ -65,8 +65,8 @@ pub extern "C" fn undrelvoa_scatter(
     size: u64,
     value: u64,
 ) -> u64
-    ensures* answer { λ r. ⌜ r ≡ scatter_fault order (length bytes.old) offset size value ⌝ }
-    ensures* buffer { λ r. ⌜ bytes.new ≡ cond (eqb r 0) (sets bytes.old offset (bytes_of (eqb order 1) size value)) bytes.old ⌝ }
+    ensures answer { result ≡ scatter_fault order (length bytes.old) offset size value }
+    ensures buffer { bytes.new ≡ cond (eqb result 0) (sets bytes.old offset (bytes_of (eqb order 1) size value)) bytes.old }
 {
     let fault = of_scatter(order, bytes.len(), offset, size, value);
     if fault != 0 {
@@ -85,8 +85,8 @@ pub extern "C" fn undrelvoa_validate(
     list: &[u64],
     report: &mut [u64],
 ) -> u64
-    ensures* answer { λ r. ⌜ AnswerPromise settings.now report.old r ⌝ }
-    ensures* buffer { λ r. ⌜ report.new ≡ cond (eqb r 0) (sets report.old 0 (verdict_words settings.now unique register ram list.now)) report.old ⌝ }
+    ensures answer { AnswerPromise settings.now report.old result }
+    ensures buffer { report.new ≡ cond (eqb result 0) (sets report.old 0 (verdict_words settings.now unique register ram list.now)) report.old }
 {
     let fault = of_lengths(settings.len(), report.len());
     if fault != 0 {
@@ -115,10 +115,10 @@ pub extern "C" fn undrelvoa_run(
     log: &mut [u64],
     report: &mut [u64],
 ) -> u64
-    ensures* answer { λ r. ⌜ AnswerPromise settings.now report.old r ⌝ }
-    ensures* buffers { λ r. ⌜ BuffersPromise settings.now list.now start budget
+    ensures answer { AnswerPromise settings.now report.old result }
+    ensures buffers { BuffersPromise settings.now list.now start budget
         (spaces unique.old register.old ram.old) log.old report.old
-        (spaces unique.new register.new ram.new) log.new report.new r ⌝ }
+        (spaces unique.new register.new ram.new) log.new report.new result }
 {
     let fault = of_lengths(settings.len(), report.len());
     if fault != 0 {
@@ -141,10 +141,10 @@ pub extern "C" fn undrelvoa_step(
     log: &mut [u64],
     report: &mut [u64],
 ) -> u64
-    ensures* answer { λ r. ⌜ AnswerPromise settings.now report.old r ⌝ }
-    ensures* buffers { λ r. ⌜ BuffersPromise settings.now list.now start 1
+    ensures answer { AnswerPromise settings.now report.old result }
+    ensures buffers { BuffersPromise settings.now list.now start 1
         (spaces unique.old register.old ram.old) log.old report.old
-        (spaces unique.new register.new ram.new) log.new report.new r ⌝ }
+        (spaces unique.new register.new ram.new) log.new report.new result }
 {
     let fault = of_lengths(settings.len(), report.len());
     if fault != 0 {
@@ -174,8 +174,8 @@ pub extern "C" fn undrelvoa_labelled_run(
     log: &mut [u64],
     report: &mut [u64],
 ) -> u64
-    ensures* answer { λ r. ⌜ AnswerPromise settings.now report.old r ⌝ }
-    ensures* buffers { λ r. ⌜ LabelledBuffersPromise settings.now list.now start budget
+    ensures answer { AnswerPromise settings.now report.old result }
+    ensures buffers { LabelledBuffersPromise settings.now list.now start budget
         (spaces unique.old register.old ram.old)
         (spaces unique_labels.old register_labels.old ram_labels.old)
         (spaces unique_counts.old register_counts.old ram_counts.old)
@@ -183,7 +183,7 @@ pub extern "C" fn undrelvoa_labelled_run(
         (spaces unique.new register.new ram.new)
         (spaces unique_labels.new register_labels.new ram_labels.new)
         (spaces unique_counts.new register_counts.new ram_counts.new)
-        log.new report.new r ⌝ }
+        log.new report.new result }
 {
     let fault = of_lengths(settings.len(), report.len());
     if fault != 0 {
@@ -227,8 +227,8 @@ pub extern "C" fn undrelvoa_labelled_step(
     log: &mut [u64],
     report: &mut [u64],
 ) -> u64
-    ensures* answer { λ r. ⌜ AnswerPromise settings.now report.old r ⌝ }
-    ensures* buffers { λ r. ⌜ LabelledBuffersPromise settings.now list.now start 1
+    ensures answer { AnswerPromise settings.now report.old result }
+    ensures buffers { LabelledBuffersPromise settings.now list.now start 1
         (spaces unique.old register.old ram.old)
         (spaces unique_labels.old register_labels.old ram_labels.old)
         (spaces unique_counts.old register_counts.old ram_counts.old)
@@ -236,7 +236,7 @@ pub extern "C" fn undrelvoa_labelled_step(
         (spaces unique.new register.new ram.new)
         (spaces unique_labels.new register_labels.new ram_labels.new)
         (spaces unique_counts.new register_counts.new ram_counts.new)
-        log.new report.new r ⌝ }
+        log.new report.new result }
 {
     let fault = of_lengths(settings.len(), report.len());
     if fault != 0 {
@@ -282,8 +282,8 @@ pub extern "C" fn undrelvoa_speculative_run(
     journal: &mut [u64],
     report: &mut [u64],
 ) -> u64
-    ensures* answer { λ r. ⌜ AnswerPromise settings.now report.old r ⌝ }
-    ensures* buffers { λ r. ⌜ SpeculativeBuffersPromise settings.now list.now start budget window
+    ensures answer { AnswerPromise settings.now report.old result }
+    ensures buffers { SpeculativeBuffersPromise settings.now list.now start budget window
         (spaces unique.old register.old ram.old)
         (spaces unique_labels.old register_labels.old ram_labels.old)
         (spaces unique_counts.old register_counts.old ram_counts.old)
@@ -291,7 +291,7 @@ pub extern "C" fn undrelvoa_speculative_run(
         (spaces unique.new register.new ram.new)
         (spaces unique_labels.new register_labels.new ram_labels.new)
         (spaces unique_counts.new register_counts.new ram_counts.new)
-        log.new journal.new report.new r ⌝ }
+        log.new journal.new report.new result }
 {
     let fault = of_lengths(settings.len(), report.len());
     if fault != 0 {
@@ -330,11 +330,11 @@ pub extern "C" fn undrelvoa_count_secrets(
     ram_counts: &mut [u64],
     report: &mut [u64],
 ) -> u64
-    ensures* answer { λ r. ⌜ ReportAnswerPromise report.old r ⌝ }
-    ensures* buffers { λ r. ⌜ CountingBuffersPromise
+    ensures answer { ReportAnswerPromise report.old result }
+    ensures buffers { CountingBuffersPromise
         (spaces unique_labels.now register_labels.now ram_labels.now)
         (spaces unique_counts.old register_counts.old ram_counts.old) report.old
-        (spaces unique_counts.new register_counts.new ram_counts.new) report.new r ⌝ }
+        (spaces unique_counts.new register_counts.new ram_counts.new) report.new result }
 {
     let fault = of_report(report.len());
     if fault != 0 {
@@ -362,8 +362,8 @@ pub extern "C" fn undrelvoa_show<'a>(
     size: u64,
     place: &mut [u64],
 ) -> u64
-    ensures* answer { λ r. ⌜ r ≡ place_fault (length place.old) ⌝ }
-    ensures* buffer { λ r. ⌜ place.new ≡ cond (eqb r 0) (sets place.old 0 (place_words unique.now register.now ram.now space offset size)) place.old ⌝ }
+    ensures answer { result ≡ place_fault (length place.old) }
+    ensures buffer { place.new ≡ cond (eqb result 0) (sets place.old 0 (place_words unique.now register.now ram.now space offset size)) place.old }
 {
     let fault = of_place(place.len());
     if fault != 0 {
@@ -377,7 +377,7 @@ pub extern "C" fn undrelvoa_show<'a>(
 // The value of some bytes. The order is a constant of each call: so `gather` is compiled into it, as into the readers of a run.
 fn value_of(big: bool, bytes: &[u8], at: usize, size: usize) -> u64
     requires { (size ≤ 8) × (at + size ≤ length bytes.now) }
-    ensures* { λ r. ⌜ r ≡ value_of big (part bytes.now at size) ⌝ }
+    ensures { result ≡ value_of big (part bytes.now at size) }
 {
     if big {
         word::bytes::gather(true, bytes, at, size)
@@ -389,7 +389,7 @@ fn value_of(big: bool, bytes: &[u8], at: usize, size: usize) -> u64
 // Stores the bytes of a value, in the same way: as the one writer of a run does, which is compiled into the run and has no second caller.
 fn store(big: bool, bytes: &mut [u8], at: usize, size: usize, value: u64)
     requires { (size ≤ 8) × (at + size ≤ length bytes.old) }
-    ensures* { λ _. ⌜ bytes.new ≡ sets bytes.old at (bytes_of big size value) ⌝ }
+    ensures { bytes.new ≡ sets bytes.old at (bytes_of big size value) }
 {
     if big {
         word::bytes::scatter(true, bytes, at, size, value)
@@ -407,7 +407,7 @@ fn shown_length<'a>(
     offset: u64,
     size: u64,
 ) -> u64
-    ensures* { λ r. ⌜ r ≡ shown_length unique.now register.now ram.now space offset size ⌝ }
+    ensures { result ≡ shown_length unique.now register.now ram.now space offset size }
 {
     let part = interpreter::show(unique, register, ram, space, offset, size);
     part.len() as u64

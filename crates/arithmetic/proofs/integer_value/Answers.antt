@@ -1,0 +1,214 @@
+use Prim.Native.Nat.{suc, ◌-◌, ◌^◌, ◌<◌}
+use mathlib.Core.Path.{refl, sym, ap, ◌∙◌}
+use native.Mathlib.Omega.{arith}
+use borrow.Author.Rules.{rules}
+use Rattle.word.specs.Sum.{tabulate}
+use Rattle.integer.proofs.Bits.{negate_is, xor_is, and_is, or_is}
+use Rattle.integer.proofs.Booleans.{not-not}
+use Rattle.arithmetic.proofs.Lookup.{lookup_none}
+use Rattle.arithmetic.proofs.Agreement.{agreed, nonzero, halves_fit, size_kept, all_equal, inputs_equal}
+use Rattle.integer.proofs.Overflow.{opposite_is}
+use Rattle.integer.specs.Operations.{flag, int_equal, int_not_equal, int_less, int_sless, int_less_equal, int_sless_equal, int_zext, int_carry, int_scarry, int_sborrow, int_div, int_rem, bool_negate, truth}
+use Rattle.arithmetic.specs.Result.{lookup, integer_results}
+use Rattle.arithmetic.specs.Opcodes.{first_integer, last_integer, opcodes, row_of, sizes_of, member}
+use Rattle.arithmetic.specs.Operands.{divides, agree, sizes_agree}
+use Rattle.arithmetic.proofs.integer_value.Goals as goal
+
+-- `arithmetic::integer_value` meets its contract. Each arm is its row of the table of results.
+pub piece-requires : goal.piece-requires
+unfolding sizes_agree agree sizes_of row_of opcodes
+piece-requires c = halves_fit c.requires (agreed c.requires 10 c.in-10.keys1)
+
+pub less-requires : goal.less-requires
+unfolding sizes_agree agree sizes_of row_of opcodes
+less-requires c = (c.requires.some0, c.requires.most0, c.requires.below0, inputs_equal c.requires (agreed c.requires 16 c.in-10.keys7))
+
+pub less_equal-requires : goal.less_equal-requires
+unfolding sizes_agree agree sizes_of row_of opcodes
+less_equal-requires c = (c.requires.some0, c.requires.most0, c.requires.below0, inputs_equal c.requires (agreed c.requires 18 c.in-10.keys9))
+
+pub carry-requires : goal.carry-requires
+unfolding sizes_agree agree sizes_of row_of opcodes
+carry-requires c = (c.requires.some0, c.requires.most0, inputs_equal c.requires (agreed c.requires 23 c.in-10.keys14))
+
+pub carry-requires-in-24 : goal.carry-requires-in-24
+unfolding sizes_agree agree sizes_of row_of opcodes
+carry-requires-in-24 c = (c.requires.some0, c.requires.most0, c.requires.below0, inputs_equal c.requires (agreed c.requires 24 c.in-10.keys15))
+
+pub borrow-requires : goal.borrow-requires
+unfolding sizes_agree agree sizes_of row_of opcodes
+borrow-requires c = (c.requires.some0, c.requires.most0, c.requires.below0, inputs_equal c.requires (agreed c.requires 25 c.in-10.keys16))
+
+pub overflow_sub-result : goal.overflow_sub-result
+unfolding sizes_agree agree sizes_of row_of opcodes
+overflow_sub-result c =
+    let h : c.args.a < 256 ^ c.args.size = size_kept c.requires (agreed c.requires 27 c.in-10.keys18) in
+    omega (arith, c.largest.ensures)
+
+pub right-requires-in-33 : goal.right-requires-in-33
+unfolding sizes_agree agree sizes_of row_of opcodes
+right-requires-in-33 c = (c.requires.some, c.requires.most, size_kept c.requires (agreed c.requires 33 c.in-10.keys24))
+
+pub nonzero_div-result : goal.nonzero_div-result
+unfolding divides
+nonzero_div-result c = nonzero c.requires 35 c.in-10.keys26 refl
+
+pub nonzero_rem-result : goal.nonzero_rem-result
+unfolding divides
+nonzero_rem-result c = nonzero c.requires 36 c.in-10.keys27 refl
+
+pub div-requires : goal.div-requires
+unfolding sizes_agree agree sizes_of row_of opcodes divides
+div-requires c =
+    let o = c.requires in
+    let h = all_equal o (agreed o 37 c.in-10.keys28) in
+    (o.some, o.most, h.0, h.1, nonzero o 37 c.in-10.keys28 refl)
+
+pub rem-requires : goal.rem-requires
+unfolding sizes_agree agree sizes_of row_of opcodes divides
+rem-requires c =
+    let o = c.requires in
+    let h = all_equal o (agreed o 38 c.in-10.keys29) in
+    (o.some, o.most, h.0, h.1, nonzero o 38 c.in-10.keys29 refl)
+
+pub returns-in-10 : goal.returns-in-10
+unfolding lookup integer_results
+returns-in-10 c = rw c.in-10.keys1 c.piece.ensures
+
+pub returns-in-11 : goal.returns-in-11
+unfolding lookup integer_results
+returns-in-11 c = rw c.in-10.keys2 c.subpiece.ensures
+
+pub returns-in-12 : goal.returns-in-12
+unfolding lookup integer_results
+returns-in-12 c = rw c.in-10.keys3 c.popcount.ensures
+
+pub returns-in-13 : goal.returns-in-13
+unfolding lookup integer_results int_equal
+returns-in-13 c = rw c.in-10.keys4 c.flag.ensures
+
+pub returns-in-14 : goal.returns-in-14
+unfolding lookup integer_results int_not_equal
+returns-in-14 c = rw c.in-10.keys5 c.flag-in-14.ensures
+
+pub returns-in-15 : goal.returns-in-15
+unfolding lookup integer_results int_less
+returns-in-15 c = rw c.in-10.keys6 c.flag-in-15.ensures
+
+pub returns-in-16 : goal.returns-in-16
+unfolding lookup integer_results int_sless
+returns-in-16 c = rw c.in-10.keys7 (c.flag-in-16.ensures ∙ ap flag c.less.ensures)
+
+pub returns-in-17 : goal.returns-in-17
+unfolding lookup integer_results int_less_equal
+returns-in-17 c = rw c.in-10.keys8 c.flag-in-17.ensures
+
+pub returns-in-18 : goal.returns-in-18
+unfolding lookup integer_results int_sless_equal
+returns-in-18 c = rw c.in-10.keys9 (c.flag-in-18.ensures ∙ ap flag c.less_equal.ensures)
+
+pub returns-in-19 : goal.returns-in-19
+unfolding lookup integer_results int_zext
+returns-in-19 c = rw c.in-10.keys10
+
+pub returns-in-20 : goal.returns-in-20
+unfolding lookup integer_results
+returns-in-20 c = rw c.in-10.keys11 c.extend.ensures
+
+pub returns-in-21 : goal.returns-in-21
+unfolding lookup integer_results
+returns-in-21 c = rw c.in-10.keys12 c.add.ensures
+
+pub returns-in-22 : goal.returns-in-22
+unfolding lookup integer_results
+returns-in-22 c = rw c.in-10.keys13 c.sub.ensures
+
+pub returns-in-23 : goal.returns-in-23
+unfolding lookup integer_results int_carry
+returns-in-23 c = rw c.in-10.keys14 (c.flag-in-23.ensures ∙ ap flag c.carry.ensures)
+
+pub returns-in-24 : goal.returns-in-24
+unfolding lookup integer_results int_scarry
+returns-in-24 c = rw c.in-10.keys15 (c.flag-in-24.ensures ∙ ap flag c.carry-in-24.ensures)
+
+pub returns-in-25 : goal.returns-in-25
+unfolding lookup integer_results int_sborrow
+returns-in-25 c = rw c.in-10.keys16 (c.flag-in-25.ensures ∙ ap flag c.borrow.ensures)
+
+pub returns-in-26 : goal.returns-in-26
+unfolding lookup integer_results sizes_agree agree sizes_of row_of opcodes
+returns-in-26 c = rw c.in-10.keys17 (c.sub-in-26.ensures ∙ opposite_is _ _ (size_kept c.requires (agreed c.requires 26 c.in-10.keys17)))
+
+pub returns-in-27 : goal.returns-in-27
+unfolding lookup integer_results sizes_agree agree sizes_of row_of opcodes
+returns-in-27 c = rw c.in-10.keys18 (negate_is _ _ _ (size_kept c.requires (agreed c.requires 27 c.in-10.keys18)) c.largest.ensures)
+
+pub returns-in-28 : goal.returns-in-28
+unfolding lookup integer_results sizes_agree agree sizes_of row_of opcodes
+returns-in-28 c =
+    let h = all_equal c.requires (agreed c.requires 28 c.in-10.keys19) in
+    rw c.in-10.keys19 (xor_is _ _ _ h.0 h.1)
+
+pub returns-in-29 : goal.returns-in-29
+unfolding lookup integer_results sizes_agree agree sizes_of row_of opcodes
+returns-in-29 c =
+    let h = all_equal c.requires (agreed c.requires 29 c.in-10.keys20) in
+    rw c.in-10.keys20 (and_is _ _ _ h.0 h.1)
+
+pub returns-in-30 : goal.returns-in-30
+unfolding lookup integer_results sizes_agree agree sizes_of row_of opcodes
+returns-in-30 c =
+    let h = all_equal c.requires (agreed c.requires 30 c.in-10.keys21) in
+    rw c.in-10.keys21 (or_is _ _ _ h.0 h.1)
+
+pub returns-in-31 : goal.returns-in-31
+unfolding lookup integer_results
+returns-in-31 c = rw c.in-10.keys22 c.left.ensures
+
+pub returns-in-32 : goal.returns-in-32
+unfolding lookup integer_results
+returns-in-32 c = rw c.in-10.keys23 c.right.ensures
+
+pub returns-in-33 : goal.returns-in-33
+unfolding lookup integer_results
+returns-in-33 c = rw c.in-10.keys24 c.right-in-33.ensures
+
+pub returns-in-34 : goal.returns-in-34
+unfolding lookup integer_results
+returns-in-34 c = rw c.in-10.keys25 c.mult.ensures
+
+pub returns-in-35 : goal.returns-in-35
+unfolding lookup integer_results int_div
+returns-in-35 c = rw c.in-10.keys26
+
+pub returns-in-36 : goal.returns-in-36
+unfolding lookup integer_results int_rem
+returns-in-36 c = rw c.in-10.keys27
+
+pub returns-in-37 : goal.returns-in-37
+unfolding lookup integer_results
+returns-in-37 c = rw c.in-10.keys28 c.div.ensures
+
+pub returns-in-38 : goal.returns-in-38
+unfolding lookup integer_results
+returns-in-38 c = rw c.in-10.keys29 c.rem.ensures
+
+pub returns-in-39 : goal.returns-in-39
+unfolding lookup integer_results bool_negate truth
+returns-in-39 c = rw c.in-10.keys30 (c.flag-in-39.ensures ∙ ap flag (sym (not-not _)))
+
+pub returns-in-40 : goal.returns-in-40
+unfolding lookup integer_results
+returns-in-40 c = rw c.in-10.keys31 c.xor.ensures
+
+pub returns-in-41 : goal.returns-in-41
+unfolding lookup integer_results
+returns-in-41 c = rw c.in-10.keys32 c.and.ensures
+
+pub returns-in-42 : goal.returns-in-42
+unfolding lookup integer_results
+returns-in-42 c = rw c.in-10.keys33 c.or.ensures
+
+pub returns-in_default : goal.returns-in_default
+unfolding integer_results member tabulate
+returns-in_default c = sym (lookup_none _ (tabulate (suc last_integer - first_integer) (λ k. last_integer - k)) c.in-10.rest _ refl)

@@ -1,0 +1,8 @@
+use borrow.Author.Rules.{rules}
+use Rattle.arithmetic.specs.Result.{result_of}
+use Rattle.arithmetic.proofs.value.Goals as goal
+
+-- `arithmetic::value` meets its contract.
+pub returns : goal.returns
+unfolding result_of
+returns c = c.integer_value.ensures

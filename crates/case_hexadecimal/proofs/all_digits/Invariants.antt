@@ -1,0 +1,16 @@
+use Rattle.case_hexadecimal.proofs.Laws.{digits_end, digits_stop, digits_more}
+use native.Mathlib.Omega.{arith}
+use mathlib.Core.Path.{◌∙◌, sym}
+use lib.ListN.{length, drop}
+use mathlib.Core.Path.{◌≡◌}
+use Prim.Native.Nat.{◌≤◌, ◌-◌}
+use Rattle.case_hexadecimal.specs.Digits.{all_digits}
+use borrow.Author.Rules.{rules}
+use Rattle.case_hexadecimal.proofs.all_digits.Given as goal
+
+-- `case_hexadecimal::all_digits` meets its contract. The loop's invariant: the characters passed are digits.
+abbrev pub invariant-loop-i : goal.invariant-loop-i
+invariant-loop-i l = (l.i ≤ length l.s) × (all_digits l.s ≡ all_digits (drop l.i l.s))
+
+abbrev pub decreases-loop-i : goal.decreases-loop-i
+decreases-loop-i l = length l.s - l.i

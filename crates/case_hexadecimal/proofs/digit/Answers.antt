@@ -1,0 +1,26 @@
+use borrow.Author.Tests.{lt-ltb, le-ltb}
+use Rattle.case_hexadecimal.specs.Digits.{digit_of}
+use borrow.Author.Rules.{rules}
+use Rattle.case_hexadecimal.proofs.digit.Goals as goal
+
+-- `case_hexadecimal::digit` meets its contract.
+pub returns-then-c-lt48 : goal.returns-then-c-lt48
+unfolding digit_of
+returns-then-c-lt48 c = rw (lt-ltb _ _ c.if-c-lt48.true)
+
+pub returns-then-c-lt58 : goal.returns-then-c-lt58
+unfolding digit_of
+returns-then-c-lt58 c = rw (le-ltb _ _ c.if-c-lt48.false, lt-ltb _ _ c.if-c-lt58.true, c.wide.ensures)
+
+pub returns-then-c-lt97 : goal.returns-then-c-lt97
+unfolding digit_of
+returns-then-c-lt97 c = rw (le-ltb _ _ c.if-c-lt48.false, le-ltb _ _ c.if-c-lt58.false, lt-ltb _ _ c.if-c-lt97.true)
+
+pub returns-then-c-lt103 : goal.returns-then-c-lt103
+unfolding digit_of
+returns-then-c-lt103 c =
+    rw (le-ltb _ _ c.if-c-lt48.false, le-ltb _ _ c.if-c-lt58.false, le-ltb _ _ c.if-c-lt97.false, lt-ltb _ _ c.if-c-lt103.true, c.wide-then-c-lt103.ensures)
+
+pub returns : goal.returns
+unfolding digit_of
+returns c = rw (le-ltb _ _ c.if-c-lt48.false, le-ltb _ _ c.if-c-lt58.false, le-ltb _ _ c.if-c-lt97.false, le-ltb _ _ c.if-c-lt103.false)

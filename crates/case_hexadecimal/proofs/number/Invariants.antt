@@ -1,0 +1,16 @@
+use Rattle.case_hexadecimal.proofs.Laws.{number_more, number_room}
+use native.Mathlib.Nat.{mod-lt}
+use mathlib.Core.Path.{◌∙◌}
+use native.Mathlib.Omega.{arith}
+use mathlib.Core.Path.{◌≡◌}
+use Prim.Native.Nat.{◌≤◌, ◌-◌}
+use Rattle.case_hexadecimal.specs.Digits.{number_at}
+use borrow.Author.Rules.{rules}
+use Rattle.case_hexadecimal.proofs.number.Given as goal
+
+-- `case_hexadecimal::number` meets its contract. The loop's invariant: the number of the digits passed.
+abbrev pub invariant-loop-i : goal.invariant-loop-i
+invariant-loop-i l = (l.i ≤ l.k) × (l.n ≡ number_at l.s l.at l.i)
+
+abbrev pub decreases-loop-i : goal.decreases-loop-i
+decreases-loop-i l = l.k - l.i

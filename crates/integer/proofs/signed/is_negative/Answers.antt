@@ -1,0 +1,7 @@
+use Rattle.std.proofs.Common.{rules}
+use Rattle.integer.proofs.TwosComplement.{sign_test}
+use Rattle.integer.proofs.signed.is_negative.Goals as goal
+
+-- `integer::signed::is_negative` meets its contract.
+pub returns : goal.returns
+returns c = sign_test _ _ (record { sfits = c.value_of.type_inv }) c.value_of.ensures

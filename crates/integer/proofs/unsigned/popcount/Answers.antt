@@ -1,0 +1,7 @@
+use Rattle.std.proofs.Common.{arith}
+use lib.Count.{ones-le}
+use Rattle.integer.proofs.Bits.{popcount_is}
+use Rattle.integer.proofs.unsigned.popcount.Goals as goal
+
+pub returns : goal.returns
+returns c = popcount_is _ _ c.requires

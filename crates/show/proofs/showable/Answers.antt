@@ -1,0 +1,9 @@
+use mathlib.Core.Path.{refl}
+use borrow.Author.Rules.{rules}
+use Rattle.show.specs.Show.{showable}
+use Rattle.show.proofs.showable.Goals as goal
+
+-- `show::showable` meets its contract.
+pub returns : goal.returns
+unfolding showable
+returns c = rw (c.both.ensures, c.is_size.ensures, c.within.ensures) refl

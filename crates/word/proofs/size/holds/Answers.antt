@@ -1,0 +1,12 @@
+use mathlib.Core.Path.{refl, sym}
+use native.Mathlib.Omega.{arith}
+use borrow.Author.Rules.{rules}
+use borrow.Author.Tests.{lt-ltb}
+use Rattle.word.proofs.Powers.{size_mono}
+use Rattle.word.proofs.size.holds.Goals as goal
+
+-- `word::size::holds` meets its contract.
+pub returns-then-size-ge8 : goal.returns-then-size-ge8
+returns-then-size-ge8 c =
+    let a = c.args in
+    sym (lt-ltb a.x _ (omega (arith, size_mono 8 a.size c.if-size-ge8.true, c.ranges.x.fits)))

@@ -1,0 +1,11 @@
+use Prim.Native.Nat.{◌^◌}
+use mathlib.Core.Path.{◌≡◌, sym}
+use native.Mathlib.Nat.{mod-eq_of_lt}
+use native.Mathlib.Omega.{arith}
+use borrow.Author.Rules.{rules}
+use Rattle.word.proofs.Powers.{size_pos}
+use Rattle.word.proofs.size.low.Goals as goal
+
+-- `word::size::low` meets its contract.
+pub nonzero_rem-result : goal.nonzero_rem-result
+nonzero_rem-result c = rw c.modulus.ensures (size_pos _)
