@@ -5,14 +5,15 @@ use Rattle.operation.specs.Decoding.{decoded}
 use Rattle.operation.proofs.Decoding.{numbered}
 use Rattle.operation.proofs.decode.decode.Goals as goal
 
-pub returns-then-breaks_shape-clause-answer : goal.returns-then-breaks_shape-clause-answer
-returns-then-breaks_shape-clause-answer c = ?
+-- `operation::decode::decode` meets its contract.
+pub returns-then-breaks_shape : goal.returns-then-breaks_shape
+unfolding decoded
+returns-then-breaks_shape c =
+    let h = numbered _ _ _ (rw (sym c.breaks_shape.ensures ∙ c.if-breaks_shape.true) refl) in
+    record { answer = h.0; rule = h.1 }
 
-pub returns-then-breaks_shape-clause-rule : goal.returns-then-breaks_shape-clause-rule
-returns-then-breaks_shape-clause-rule c = ?
-
-pub returns-clause-answer : goal.returns-clause-answer
-returns-clause-answer c = ?
-
-pub returns-clause-rule : goal.returns-clause-rule
-returns-clause-rule c = ?
+pub returns : goal.returns
+unfolding decoded
+returns c =
+    let h = numbered _ _ _ (rw (sym c.breaks_shape.ensures ∙ c.if-breaks_shape.false) (ap Accepted c.described_by.ensures)) in
+    record { answer = h.0; rule = h.1 }
