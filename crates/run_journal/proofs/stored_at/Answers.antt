@@ -1,6 +1,7 @@
 use mathlib.Core.Path.{ap, ◌∙◌}
 use native.Mathlib.Omega.{arith}
 use borrow.Author.Rules.{rules}
+use mathlib.Core.Bool.{not}
 use Rattle.operation.specs.declared.layout.Lengths.{Lengths}
 use Rattle.operation.specs.Rules.{length_of}
 use Rattle.machine.specs.Effect.{operation_at}
@@ -44,7 +45,7 @@ returns-then-not-within c =
     let extent = c.length_of-length.ensures ∙ ap (λ (l : Lengths). length_of l c.varnode_at-input0.result.offset) c.lengths_of.ensures in
     c.absent.ensures
     ∙ stored_outside _ _ _ _ pre.0 pre.1 pre.2 pre.3 _ _ _ c.varnode_at-input0.ensures c.varnode_at-input1.ensures c.varnode_at-input2.ensures
-    _ _ _ c.value_at-pointer.ensures extent c.offset_in-offset.ensures _ c.within.ensures c.if-not-within.true
+    _ _ _ c.value_at-pointer.ensures extent c.offset_in-offset.ensures _ c.within.ensures (ap not c.if-not-within.true)
 
 pub returns : goal.returns
 unfolding operation_at
@@ -52,4 +53,4 @@ returns c =
     let pre = c.requires in
     let extent = c.length_of-length.ensures ∙ ap (λ (l : Lengths). length_of l c.varnode_at-input0.result.offset) c.lengths_of.ensures in
     stored_inside _ _ _ _ pre.0 pre.1 pre.2 pre.3 _ _ _ c.varnode_at-input0.ensures c.varnode_at-input1.ensures c.varnode_at-input2.ensures
-    _ _ _ c.value_at-pointer.ensures extent c.offset_in-offset.ensures _ c.within.ensures c.if-not-within.false
+    _ _ _ c.value_at-pointer.ensures extent c.offset_in-offset.ensures _ c.within.ensures (ap not c.if-not-within.false)
