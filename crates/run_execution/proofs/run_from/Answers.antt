@@ -43,29 +43,29 @@ returns-then-both c =
 
 pub log_word-requires : goal.log_word-requires
 log_word-requires c =
-    may_log _ _ _ _ _ _ _ _ _ _ _ c.loop-i.invariant.1 (λ e. c.if-i-count.left (e ∙ sym c.loop-i.invariant.0)) c.if-executed-budget.left _ c.plan_at-p.ensures
+    may_log _ _ _ _ _ _ _ _ _ _ _ c.loop-i.invariant.1 (λ e. c.if-i-count.false (e ∙ sym c.loop-i.invariant.0)) c.if-executed-budget.false _ c.plan_at-p.ensures
 
 pub returns-then-p-eq1 : goal.returns-then-p-eq1
 returns-then-p-eq1 c =
     rw c.run_report-then-p-eq1.ensures
-    (at_exit _ _ _ _ _ _ _ _ _ _ _ c.loop-i.invariant.1 (λ e. c.if-i-count.left (e ∙ sym c.loop-i.invariant.0))
-    c.if-executed-budget.left _ c.plan_at-p.ensures
-    c.if-p-gt1.left _ c.both.ensures
-    c.if-both.left _ _ _ c.log_word.ensures c.push-k.ensures.0 c.push-k.ensures.1 c.if-p-eq1.true)
+    (at_exit _ _ _ _ _ _ _ _ _ _ _ c.loop-i.invariant.1 (λ e. c.if-i-count.false (e ∙ sym c.loop-i.invariant.0))
+    c.if-executed-budget.false _ c.plan_at-p.ensures
+    c.if-p-gt1.false _ c.both.ensures
+    c.if-both.false _ _ _ c.log_word.ensures c.push-k.ensures.0 c.push-k.ensures.1 c.if-p-eq1.true)
 
 pub write-requires : goal.write-requires
 write-requires c =
-    may_write _ _ _ _ _ _ _ _ _ _ _ c.loop-i.invariant.1 (λ e. c.if-i-count.left (e ∙ sym c.loop-i.invariant.0))
-    c.if-executed-budget.left _ c.plan_at-p.ensures
+    may_write _ _ _ _ _ _ _ _ _ _ _ c.loop-i.invariant.1 (λ e. c.if-i-count.false (e ∙ sym c.loop-i.invariant.0))
+    c.if-executed-budget.false _ c.plan_at-p.ensures
 
 pub loop-i-preserved : goal.loop-i-preserved
 loop-i-preserved c =
     (
       c.loop-i.invariant.0,
-      at_next _ _ _ _ _ _ _ _ _ _ _ c.loop-i.invariant.1 (λ e. c.if-i-count.left (e ∙ sym c.loop-i.invariant.0))
-          c.if-executed-budget.left _ c.plan_at-p.ensures
-          c.if-p-gt1.left _ c.both.ensures
-          c.if-both.left _ _ _ c.log_word.ensures c.push-k.ensures.0 c.push-k.ensures.1
+      at_next _ _ _ _ _ _ _ _ _ _ _ c.loop-i.invariant.1 (λ e. c.if-i-count.false (e ∙ sym c.loop-i.invariant.0))
+          c.if-executed-budget.false _ c.plan_at-p.ensures
+          c.if-p-gt1.false _ c.both.ensures
+          c.if-both.false _ _ _ c.log_word.ensures c.push-k.ensures.0 c.push-k.ensures.1
           c.if-p-eq1.false _ c.write.ensures
           (of_bytes _ _ _ (λ j. (c.type_inv.unique j).fits) (λ j. (c.type_inv.register j).fits) (λ j. (c.type_inv.ram j).fits)),
     )
