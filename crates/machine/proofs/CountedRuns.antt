@@ -27,7 +27,7 @@ pub data Turns (labels counts : Memory) : (labels' counts' : Memory) → Type 0 
   none : Turns labels counts labels counts
   more : {l c : Memory} → Turns labels counts l c → (l' : Memory) → lengths_of l' ≡ lengths_of l → Turns labels counts l' (counts_after l l' c)
 
-pub turns_on : {a b c counts counts' counts'' : Memory} → Turns a counts b counts' → Turns b counts' c counts'' → Turns a counts c counts''
+pub turns_on : {a b counts counts' c counts'' : Memory} → Turns a counts b counts' → Turns b counts' c counts'' → Turns a counts c counts''
 turns_on p none = p
 turns_on p (more q l' e) = more (turns_on p q) l' e
 

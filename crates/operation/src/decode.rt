@@ -11,7 +11,7 @@ use integer::boolean::{both, either};
 use word::size::is_size;
 
 // What decoding answers.
-#[derive(Drop)]
+#[derive(Clone, Copy)]
 pub enum Decoded {
     Accepted(Varnode),
     Fault,

@@ -13,7 +13,7 @@ pub const WORDS_PER_OPERATION: usize = MOST_INPUTS as usize + 2;
 const HEAD_BYTES: u64 = MOST_INPUTS as u64 + 2;
 
 // A number of bytes at an offset of an address space; in space 1 the offset is the value.
-#[derive(Drop)]
+#[derive(Clone, Copy)]
 pub struct Varnode {
     pub space: u64,
     pub offset: u64,
@@ -21,7 +21,7 @@ pub struct Varnode {
 }
 
 // How many bytes a pointer into each space counts as one.
-#[derive(Drop)]
+#[derive(Clone, Copy)]
 pub struct Wordsizes {
     pub unique: u64,
     pub register: u64,
@@ -29,7 +29,7 @@ pub struct Wordsizes {
 }
 
 // Byte order, 0 little or 1 big, address size and wordsizes.
-#[derive(Drop)]
+#[derive(Clone, Copy)]
 pub struct Settings {
     pub order: u64,
     pub address_size: u64,
@@ -37,7 +37,7 @@ pub struct Settings {
 }
 
 // The lengths of the three spaces with bytes.
-#[derive(Drop)]
+#[derive(Clone, Copy)]
 pub struct Lengths {
     pub unique: u64,
     pub register: u64,

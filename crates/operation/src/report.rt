@@ -4,7 +4,7 @@ ghost use Rattle.std.specs.Prelude.{◌≡◌};
 // Numbers of a report.
 pub const REPORT_NUMBERS: usize = 5;
 
-#[derive(Drop)]
+#[derive(Clone, Copy)]
 pub struct Report {
     pub ending: u64,
     pub index: u64,

@@ -31,7 +31,7 @@ use word::size::within;
 const ENTRY_WORDS: usize = 4;
 
 // What a varnode held: its bytes and its labels.
-#[derive(Drop)]
+#[derive(Clone, Copy)]
 pub struct Entry {
     pub target: Varnode,
     pub bytes: u64,

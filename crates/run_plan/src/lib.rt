@@ -23,7 +23,7 @@ use word::size::within;
 
 // stop: 0 goes on at `next`, 1 EXIT with `value`, 32 BOUNDS, 33 ZERO. due: a log word with this low part is to be written. The target,
 // which may be absent, gets the value.
-#[derive(Drop)]
+#[derive(Clone, Copy)]
 pub struct Plan {
     pub stop: u64,
     pub next: usize,

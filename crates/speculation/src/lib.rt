@@ -1,1 +1,2 @@
 // The speculative run has definitions and theorems here: see specs/ and proofs/.
+#![tactic(auto)]

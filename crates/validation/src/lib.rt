@@ -1,4 +1,5 @@
 // The papers' judge: the verdict on a list of operations.
+#![tactic(auto)]
 ghost use Rattle.std.specs.Prelude.{◌≡◌, ◌+◌, ◌*◌, ◌≤◌, length};
 ghost use Rattle.operation.specs.Layout.{words_per_operation};
 ghost use Rattle.validation.specs.Verdict.{wordsizes_in_range, settings_in_range, lengths_in_range, size_or_target, malformed, verdict, refusal_report};
@@ -19,7 +20,7 @@ const MOST_OPERATIONS: usize = 4096;
 const MOST_BYTES: u64 = 65536;
 
 // The first malformed operation of a list, and the lowest rule that it breaks.
-#[derive(Drop)]
+#[derive(Clone, Copy)]
 pub struct Malformed {
     pub rule: u64,
     pub index: u64,

@@ -17,198 +17,198 @@ use Rattle.arithmetic.proofs.integer_value.Goals as goal
 -- `arithmetic::integer_value` meets its contract. Each arm is its row of the table of results.
 pub piece-requires : goal.piece-requires
 unfolding sizes_agree agree sizes_of row_of opcodes
-piece-requires c = halves_fit c.requires (agreed c.requires 10 c.in-10.keys1)
+piece-requires c = halves_fit c.requires (agreed c.requires 10 c.in-10.is)
 
 pub less-requires : goal.less-requires
 unfolding sizes_agree agree sizes_of row_of opcodes
-less-requires c = (c.requires.some0, c.requires.most0, c.requires.below0, inputs_equal c.requires (agreed c.requires 16 c.in-10.keys7))
+less-requires c = (c.requires.some0, c.requires.most0, c.requires.below0, inputs_equal c.requires (agreed c.requires 16 c.in-16.is))
 
 pub less_equal-requires : goal.less_equal-requires
 unfolding sizes_agree agree sizes_of row_of opcodes
-less_equal-requires c = (c.requires.some0, c.requires.most0, c.requires.below0, inputs_equal c.requires (agreed c.requires 18 c.in-10.keys9))
+less_equal-requires c = (c.requires.some0, c.requires.most0, c.requires.below0, inputs_equal c.requires (agreed c.requires 18 c.in-18.is))
 
 pub carry-requires : goal.carry-requires
 unfolding sizes_agree agree sizes_of row_of opcodes
-carry-requires c = (c.requires.some0, c.requires.most0, inputs_equal c.requires (agreed c.requires 23 c.in-10.keys14))
+carry-requires c = (c.requires.some0, c.requires.most0, inputs_equal c.requires (agreed c.requires 23 c.in-23.is))
 
 pub carry-requires-in-24 : goal.carry-requires-in-24
 unfolding sizes_agree agree sizes_of row_of opcodes
-carry-requires-in-24 c = (c.requires.some0, c.requires.most0, c.requires.below0, inputs_equal c.requires (agreed c.requires 24 c.in-10.keys15))
+carry-requires-in-24 c = (c.requires.some0, c.requires.most0, c.requires.below0, inputs_equal c.requires (agreed c.requires 24 c.in-24.is))
 
 pub borrow-requires : goal.borrow-requires
 unfolding sizes_agree agree sizes_of row_of opcodes
-borrow-requires c = (c.requires.some0, c.requires.most0, c.requires.below0, inputs_equal c.requires (agreed c.requires 25 c.in-10.keys16))
+borrow-requires c = (c.requires.some0, c.requires.most0, c.requires.below0, inputs_equal c.requires (agreed c.requires 25 c.in-25.is))
 
 pub overflow_sub-result : goal.overflow_sub-result
 unfolding sizes_agree agree sizes_of row_of opcodes
 overflow_sub-result c =
-    let h : c.args.a < 256 ^ c.args.size = size_kept c.requires (agreed c.requires 27 c.in-10.keys18) in
+    let h : c.args.a < 256 ^ c.args.size = size_kept c.requires (agreed c.requires 27 c.in-27.is) in
     omega (arith, c.largest.ensures)
 
 pub right-requires-in-33 : goal.right-requires-in-33
 unfolding sizes_agree agree sizes_of row_of opcodes
-right-requires-in-33 c = (c.requires.some, c.requires.most, size_kept c.requires (agreed c.requires 33 c.in-10.keys24))
+right-requires-in-33 c = (c.requires.some, c.requires.most, size_kept c.requires (agreed c.requires 33 c.in-33.is))
 
 pub nonzero_div-result : goal.nonzero_div-result
 unfolding divides
-nonzero_div-result c = nonzero c.requires 35 c.in-10.keys26 refl
+nonzero_div-result c = nonzero c.requires 35 c.in-35.is refl
 
 pub nonzero_rem-result : goal.nonzero_rem-result
 unfolding divides
-nonzero_rem-result c = nonzero c.requires 36 c.in-10.keys27 refl
+nonzero_rem-result c = nonzero c.requires 36 c.in-36.is refl
 
 pub div-requires : goal.div-requires
 unfolding sizes_agree agree sizes_of row_of opcodes divides
 div-requires c =
     let o = c.requires in
-    let h = all_equal o (agreed o 37 c.in-10.keys28) in
-    (o.some, o.most, h.0, h.1, nonzero o 37 c.in-10.keys28 refl)
+    let h = all_equal o (agreed o 37 c.in-37.is) in
+    (o.some, o.most, h.0, h.1, nonzero o 37 c.in-37.is refl)
 
 pub rem-requires : goal.rem-requires
 unfolding sizes_agree agree sizes_of row_of opcodes divides
 rem-requires c =
     let o = c.requires in
-    let h = all_equal o (agreed o 38 c.in-10.keys29) in
-    (o.some, o.most, h.0, h.1, nonzero o 38 c.in-10.keys29 refl)
+    let h = all_equal o (agreed o 38 c.in-38.is) in
+    (o.some, o.most, h.0, h.1, nonzero o 38 c.in-38.is refl)
 
 pub returns-in-10 : goal.returns-in-10
 unfolding lookup integer_results
-returns-in-10 c = rw c.in-10.keys1 c.piece.ensures
+returns-in-10 c = rw c.in-10.is c.piece.ensures
 
 pub returns-in-11 : goal.returns-in-11
 unfolding lookup integer_results
-returns-in-11 c = rw c.in-10.keys2 c.subpiece.ensures
+returns-in-11 c = rw c.in-11.is c.subpiece.ensures
 
 pub returns-in-12 : goal.returns-in-12
 unfolding lookup integer_results
-returns-in-12 c = rw c.in-10.keys3 c.popcount.ensures
+returns-in-12 c = rw c.in-12.is c.popcount.ensures
 
 pub returns-in-13 : goal.returns-in-13
 unfolding lookup integer_results int_equal
-returns-in-13 c = rw c.in-10.keys4 c.flag.ensures
+returns-in-13 c = rw c.in-13.is c.flag.ensures
 
 pub returns-in-14 : goal.returns-in-14
 unfolding lookup integer_results int_not_equal
-returns-in-14 c = rw c.in-10.keys5 c.flag-in-14.ensures
+returns-in-14 c = rw c.in-14.is c.flag-in-14.ensures
 
 pub returns-in-15 : goal.returns-in-15
 unfolding lookup integer_results int_less
-returns-in-15 c = rw c.in-10.keys6 c.flag-in-15.ensures
+returns-in-15 c = rw c.in-15.is c.flag-in-15.ensures
 
 pub returns-in-16 : goal.returns-in-16
 unfolding lookup integer_results int_sless
-returns-in-16 c = rw c.in-10.keys7 (c.flag-in-16.ensures ∙ ap flag c.less.ensures)
+returns-in-16 c = rw c.in-16.is (c.flag-in-16.ensures ∙ ap flag c.less.ensures)
 
 pub returns-in-17 : goal.returns-in-17
 unfolding lookup integer_results int_less_equal
-returns-in-17 c = rw c.in-10.keys8 c.flag-in-17.ensures
+returns-in-17 c = rw c.in-17.is c.flag-in-17.ensures
 
 pub returns-in-18 : goal.returns-in-18
 unfolding lookup integer_results int_sless_equal
-returns-in-18 c = rw c.in-10.keys9 (c.flag-in-18.ensures ∙ ap flag c.less_equal.ensures)
+returns-in-18 c = rw c.in-18.is (c.flag-in-18.ensures ∙ ap flag c.less_equal.ensures)
 
 pub returns-in-19 : goal.returns-in-19
 unfolding lookup integer_results int_zext
-returns-in-19 c = rw c.in-10.keys10
+returns-in-19 c = rw c.in-19.is
 
 pub returns-in-20 : goal.returns-in-20
 unfolding lookup integer_results
-returns-in-20 c = rw c.in-10.keys11 c.extend.ensures
+returns-in-20 c = rw c.in-20.is c.extend.ensures
 
 pub returns-in-21 : goal.returns-in-21
 unfolding lookup integer_results
-returns-in-21 c = rw c.in-10.keys12 c.add.ensures
+returns-in-21 c = rw c.in-21.is c.add.ensures
 
 pub returns-in-22 : goal.returns-in-22
 unfolding lookup integer_results
-returns-in-22 c = rw c.in-10.keys13 c.sub.ensures
+returns-in-22 c = rw c.in-22.is c.sub.ensures
 
 pub returns-in-23 : goal.returns-in-23
 unfolding lookup integer_results int_carry
-returns-in-23 c = rw c.in-10.keys14 (c.flag-in-23.ensures ∙ ap flag c.carry.ensures)
+returns-in-23 c = rw c.in-23.is (c.flag-in-23.ensures ∙ ap flag c.carry.ensures)
 
 pub returns-in-24 : goal.returns-in-24
 unfolding lookup integer_results int_scarry
-returns-in-24 c = rw c.in-10.keys15 (c.flag-in-24.ensures ∙ ap flag c.carry-in-24.ensures)
+returns-in-24 c = rw c.in-24.is (c.flag-in-24.ensures ∙ ap flag c.carry-in-24.ensures)
 
 pub returns-in-25 : goal.returns-in-25
 unfolding lookup integer_results int_sborrow
-returns-in-25 c = rw c.in-10.keys16 (c.flag-in-25.ensures ∙ ap flag c.borrow.ensures)
+returns-in-25 c = rw c.in-25.is (c.flag-in-25.ensures ∙ ap flag c.borrow.ensures)
 
 pub returns-in-26 : goal.returns-in-26
 unfolding lookup integer_results sizes_agree agree sizes_of row_of opcodes
-returns-in-26 c = rw c.in-10.keys17 (c.sub-in-26.ensures ∙ opposite_is _ _ (size_kept c.requires (agreed c.requires 26 c.in-10.keys17)))
+returns-in-26 c = rw c.in-26.is (c.sub-in-26.ensures ∙ opposite_is _ _ (size_kept c.requires (agreed c.requires 26 c.in-26.is)))
 
 pub returns-in-27 : goal.returns-in-27
 unfolding lookup integer_results sizes_agree agree sizes_of row_of opcodes
-returns-in-27 c = rw c.in-10.keys18 (negate_is _ _ _ (size_kept c.requires (agreed c.requires 27 c.in-10.keys18)) c.largest.ensures)
+returns-in-27 c = rw c.in-27.is (negate_is _ _ _ (size_kept c.requires (agreed c.requires 27 c.in-27.is)) c.largest.ensures)
 
 pub returns-in-28 : goal.returns-in-28
 unfolding lookup integer_results sizes_agree agree sizes_of row_of opcodes
 returns-in-28 c =
-    let h = all_equal c.requires (agreed c.requires 28 c.in-10.keys19) in
-    rw c.in-10.keys19 (xor_is _ _ _ h.0 h.1)
+    let h = all_equal c.requires (agreed c.requires 28 c.in-28.is) in
+    rw c.in-28.is (xor_is _ _ _ h.0 h.1)
 
 pub returns-in-29 : goal.returns-in-29
 unfolding lookup integer_results sizes_agree agree sizes_of row_of opcodes
 returns-in-29 c =
-    let h = all_equal c.requires (agreed c.requires 29 c.in-10.keys20) in
-    rw c.in-10.keys20 (and_is _ _ _ h.0 h.1)
+    let h = all_equal c.requires (agreed c.requires 29 c.in-29.is) in
+    rw c.in-29.is (and_is _ _ _ h.0 h.1)
 
 pub returns-in-30 : goal.returns-in-30
 unfolding lookup integer_results sizes_agree agree sizes_of row_of opcodes
 returns-in-30 c =
-    let h = all_equal c.requires (agreed c.requires 30 c.in-10.keys21) in
-    rw c.in-10.keys21 (or_is _ _ _ h.0 h.1)
+    let h = all_equal c.requires (agreed c.requires 30 c.in-30.is) in
+    rw c.in-30.is (or_is _ _ _ h.0 h.1)
 
 pub returns-in-31 : goal.returns-in-31
 unfolding lookup integer_results
-returns-in-31 c = rw c.in-10.keys22 c.left.ensures
+returns-in-31 c = rw c.in-31.is c.left.ensures
 
 pub returns-in-32 : goal.returns-in-32
 unfolding lookup integer_results
-returns-in-32 c = rw c.in-10.keys23 c.right.ensures
+returns-in-32 c = rw c.in-32.is c.right.ensures
 
 pub returns-in-33 : goal.returns-in-33
 unfolding lookup integer_results
-returns-in-33 c = rw c.in-10.keys24 c.right-in-33.ensures
+returns-in-33 c = rw c.in-33.is c.right-in-33.ensures
 
 pub returns-in-34 : goal.returns-in-34
 unfolding lookup integer_results
-returns-in-34 c = rw c.in-10.keys25 c.mult.ensures
+returns-in-34 c = rw c.in-34.is c.mult.ensures
 
 pub returns-in-35 : goal.returns-in-35
 unfolding lookup integer_results int_div
-returns-in-35 c = rw c.in-10.keys26
+returns-in-35 c = rw c.in-35.is
 
 pub returns-in-36 : goal.returns-in-36
 unfolding lookup integer_results int_rem
-returns-in-36 c = rw c.in-10.keys27
+returns-in-36 c = rw c.in-36.is
 
 pub returns-in-37 : goal.returns-in-37
 unfolding lookup integer_results
-returns-in-37 c = rw c.in-10.keys28 c.div.ensures
+returns-in-37 c = rw c.in-37.is c.div.ensures
 
 pub returns-in-38 : goal.returns-in-38
 unfolding lookup integer_results
-returns-in-38 c = rw c.in-10.keys29 c.rem.ensures
+returns-in-38 c = rw c.in-38.is c.rem.ensures
 
 pub returns-in-39 : goal.returns-in-39
 unfolding lookup integer_results bool_negate truth
-returns-in-39 c = rw c.in-10.keys30 (c.flag-in-39.ensures ∙ ap flag (sym (not-not _)))
+returns-in-39 c = rw c.in-39.is (c.flag-in-39.ensures ∙ ap flag (sym (not-not _)))
 
 pub returns-in-40 : goal.returns-in-40
 unfolding lookup integer_results
-returns-in-40 c = rw c.in-10.keys31 c.xor.ensures
+returns-in-40 c = rw c.in-40.is c.xor.ensures
 
 pub returns-in-41 : goal.returns-in-41
 unfolding lookup integer_results
-returns-in-41 c = rw c.in-10.keys32 c.and.ensures
+returns-in-41 c = rw c.in-41.is c.and.ensures
 
 pub returns-in-42 : goal.returns-in-42
 unfolding lookup integer_results
-returns-in-42 c = rw c.in-10.keys33 c.or.ensures
+returns-in-42 c = rw c.in-42.is c.or.ensures
 
 pub returns-in_default : goal.returns-in_default
 unfolding integer_results member tabulate
-returns-in_default c = sym (lookup_none _ (tabulate (suc last_integer - first_integer) (λ k. last_integer - k)) c.in-10.rest _ refl)
+returns-in_default c = sym (lookup_none _ (tabulate (suc last_integer - first_integer) (λ k. last_integer - k)) c.in_default.in_default-own.rest _ refl)

@@ -5,12 +5,12 @@ use Rattle.secret_counts.proofs.Filling.{secrets_few, total_more, total_all, cou
 use Rattle.secret_counts.proofs.fill.Goals as goal
 
 -- the total of a few labels more
-total-at : (c : lts.After-secrets-of calls reads.Pre reads.Post invariant-loop decreases-loop)
-    → c.before.before.loop.total + c.secrets-of.result
-    ≡ secrets (take (64 * c.before.before.loop.block + 64) c.before.before.before.before.before.before.args.labels.now)
+total-at : (c : goal.After-secrets_of-secrets)
+    → c.loop-block.total + c.secrets_of-secrets.result
+    ≡ secrets (take (64 * c.loop-block.block + 64) c.args.labels.now)
 total-at c =
-    let l = c.before.before.loop in
-    rw (l.invariant.1, c.secrets-of.ensures) (sym (total_more c.before.before.before.before.before.before.args.labels.now l.block))
+    let l = c.loop-block in
+    rw (l.invariant.1, c.secrets_of-secrets.ensures) (sym (total_more c.args.labels.now l.block))
 
 pub overflow_sub-blocks : goal.overflow_sub-blocks
 unfolding count_words

@@ -15,7 +15,7 @@ grow-requires-then-size-near c =
     let p = c.requires in
     let inside = total_inside _ _ _ _ _ _ c.args.counts.now p.0 p.1 p.2 p.3 p.4 p.5 c.gained-more.ensures in
     let first = block_first _ _ _ _ _ _ c.args.counts.now p.0 p.1 p.2 p.3 p.4 p.5 c.gained-more.ensures in
-    omega (arith, inside, first, c.grow.auto.0)
+    omega (arith, inside, first, c.grow.auto.counts)
 
 pub returns-then-size-near : goal.returns-then-size-near
 returns-then-size-near c =
@@ -28,7 +28,7 @@ grow-requires-2 c =
     let p = c.requires in
     let inside = total_inside _ _ _ _ _ _ c.args.counts.now p.0 p.1 p.2 p.3 p.4 p.5 c.gained-more.ensures in
     let first = block_first _ _ _ _ _ _ c.args.counts.now p.0 p.1 p.2 p.3 p.4 p.5 c.gained-more.ensures in
-    omega (arith, inside, first, c.grow.auto.0)
+    omega (arith, inside, first, c.grow.auto.counts)
 
 pub grow-requires-3 : goal.grow-requires-3
 grow-requires-3 c =
@@ -36,7 +36,7 @@ grow-requires-3 c =
     let inside = total_inside _ _ _ _ _ _ c.args.counts.now p.0 p.1 p.2 p.3 p.4 p.5 c.gained-more.ensures in
     let next = next_first _ _ _ _ _ _ c.args.counts.now p.0 p.1 p.2 p.3 p.4 p.5 c.gained-more.ensures c.if-size-near.false _ _
     (rw (pow_bits (64 - c.args.at % 64)) c.gained-far.ensures) c.wrapping_sub_u64.ensures.value in
-    omega (arith, inside, next, c.grow.auto.0, c.grow-2.auto.0)
+    omega (arith, inside, next, c.grow.auto.counts, c.grow-2.auto.counts)
 
 pub returns : goal.returns
 returns c =

@@ -4,8 +4,8 @@ use Rattle.secret_counts.proofs.Filling.{secrets_none, secrets_more, block_all, 
 use Rattle.secret_counts.proofs.secrets_of.Goals as goal
 
 -- what is added
-flag_at : (c : lts.After-flag calls reads.Pre reads.Post invariant-loop decreases-loop) → c.flag.result ≤ 1
-flag_at c = rw c.flag.ensures (flag_few _)
+flag_at : (c : goal.After-flag-secrets) → c.flag-secrets.result ≤ 1
+flag_at c = rw c.flag-secrets.ensures (flag_few _)
 
 pub overflow_mul-from : goal.overflow_mul-from
 unfolding blocks

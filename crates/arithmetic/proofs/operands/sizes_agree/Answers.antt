@@ -12,7 +12,7 @@ pub returns-then-has_bit : goal.returns-then-has_bit
 unfolding sizes_agree
 returns-then-has_bit c =
     let a = c.args in
-    rw (tested c.has_bit.ensures (kept-set _) c.if-has_bit.true) at (by_sentence (sizes_of a.opcode) a.address-size a.size a.size0 a.size1)
+    rw (tested c.has_bit.ensures (kept-set _) c.if-has_bit.true) at (by_sentence (sizes_of a.opcode) a.address_size a.size a.size0 a.size1)
 
 pub returns-then-has_bit-2 : goal.returns-then-has_bit-2
 unfolding sizes_agree
@@ -20,7 +20,7 @@ returns-then-has_bit-2 c =
     let a = c.args in
     c.both.ensures
     ∙ (rw (tested c.has_bit.ensures (kept-set _) c.if-has_bit.false, tested c.has_bit-2.ensures (equal-set _) c.if-has_bit-2.true)
-    at (by_sentence (sizes_of a.opcode) a.address-size a.size a.size0 a.size1))
+    at (by_sentence (sizes_of a.opcode) a.address_size a.size a.size0 a.size1))
 
 pub returns : goal.returns
 unfolding sizes_agree
@@ -36,4 +36,4 @@ returns c =
     (pick_is c.sentence-condition.ensures (condition-set _) refl
     (pick_is c.sentence-free.ensures (free-set _) refl refl))))))))
     ∙ (rw (tested c.has_bit.ensures (kept-set _) c.if-has_bit.false, tested c.has_bit-2.ensures (equal-set _) c.if-has_bit-2.false)
-    at (by_sentence (sizes_of a.opcode) a.address-size a.size a.size0 a.size1))
+    at (by_sentence (sizes_of a.opcode) a.address_size a.size a.size0 a.size1))

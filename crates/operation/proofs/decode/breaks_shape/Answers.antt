@@ -1,0 +1,17 @@
+use mathlib.Core.Path.{◌∙◌}
+use borrow.Author.Tests.{eq-eqb, ne_eqb}
+use borrow.Author.Rules.{rules}
+use Rattle.operation.proofs.Decoding.{shape_broken}
+use Rattle.operation.proofs.decode.breaks_shape.Goals as goal
+
+-- `operation::decode::breaks_shape` meets its contract.
+pub returns-then-descriptor-eq0 : goal.returns-then-descriptor-eq0
+returns-then-descriptor-eq0 c =
+    let a = c.args in
+    c.either.ensures ∙ (rw (eq-eqb a.descriptor 0 c.if-descriptor-eq0.true) at (shape_broken a.wanted a.descriptor a.offset))
+
+pub returns : goal.returns
+returns c =
+    let a = c.args in
+    c.either-2.ensures
+    ∙ rw c.describes_varnode.ensures (rw (ne_eqb a.descriptor 0 c.if-descriptor-eq0.false) at (shape_broken a.wanted a.descriptor a.offset))

@@ -1,0 +1,9 @@
+use mathlib.Core.Path.{refl}
+use borrow.Author.Rules.{rules}
+use Rattle.operation.specs.Layout.{spare_at}
+use Rattle.operation.proofs.layout.spare_at.Goals as goal
+
+-- `operation::layout::spare_at` meets its contract.
+pub returns : goal.returns
+unfolding spare_at
+returns c = rw c.word_at.ensures refl

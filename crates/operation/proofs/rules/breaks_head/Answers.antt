@@ -1,0 +1,10 @@
+use mathlib.Core.Path.{refl}
+use borrow.Author.Rules.{rules}
+use Rattle.operation.specs.Rules.{breaks_head}
+use Rattle.operation.proofs.rules.breaks_head.Goals as goal
+
+-- `operation::rules::breaks_head` meets its contract.
+pub returns : goal.returns
+unfolding breaks_head
+returns c =
+    rw (c.either.ensures, c.both.ensures, c.spare_at-spare.ensures, c.opcode_at-opcode.ensures) refl

@@ -1,0 +1,8 @@
+use borrow.Author.Rules.{rules}
+use Rattle.operation.specs.Rules.{is_destination}
+use Rattle.operation.proofs.rules.is_destination.Goals as goal
+
+-- `operation::rules::is_destination` meets its contract.
+pub returns : goal.returns
+unfolding is_destination
+returns c = c.either.ensures

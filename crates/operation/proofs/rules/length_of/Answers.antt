@@ -1,0 +1,8 @@
+use borrow.Author.Rules.{rules}
+use Rattle.operation.specs.Rules.{length_of}
+use Rattle.operation.proofs.rules.length_of.Goals as goal
+
+-- `operation::rules::length_of` meets its contract.
+pub returns : goal.returns
+unfolding length_of
+returns c = c.by_space.ensures
