@@ -1,4 +1,3 @@
--- `case_reader::stream::start` meets its contract.
 use mathlib.Core.Path.{refl, sym}
 use native.Mathlib.Omega.{arith}
 use Prim.Native.Nat.{ℕ}
@@ -6,10 +5,10 @@ use lib.Seq.{take-nil}
 use Rattle.case_reader.specs.Lines.{no_line, lines_read, lines_of, rest_of}
 use Rattle.case_reader.specs.Buffers.{progress_in}
 use Rattle.case_reader.specs.Limits.{line_room}
-use Rattle.case_reader.proofs.stream.start.Statement.{statement}
-use Rattle.case_reader.proofs.stream.start.Tie as tie
+use Rattle.case_reader.proofs.stream.start.Goals as goal
 
-returns : tie.Need-returns
+-- `case_reader::stream::start` meets its contract.
+pub returns : goal.returns
 unfolding progress_in no_line lines_read lines_of rest_of
 returns c =
     record {
@@ -25,6 +24,3 @@ returns c =
       };
       read = λ line m ls ws. record { rest = sym (take-nil {A = ℕ} line_room); lines = refl };
     }
-
-pub start_spec : {M : Type 1} → statement M
-start_spec = tie.close (tie.spec returns)
