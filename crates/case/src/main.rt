@@ -1,7 +1,8 @@
 // The case program: reads a case from standard input and prints what its labelled run leaves.
 #![tactic(auto)]
+ghost use Rattle.std.specs.Prelude.{IfSome};
 ghost use Rattle.case_reader.specs.Stream.{Lent};
-ghost use Rattle.case.specs.Read.{Read};
+ghost use Rattle.case.specs.Read.{Read, ReadWhole};
 
 use case_reader::buffers;
 use case_reader::stream::{Reader, read, start};
@@ -48,16 +49,18 @@ fn has_argument(env: &impl Env) -> bool {
     !matches!(env.arg(1, &mut text), Err(FillError::NotPresent))
 }
 
-// Reads a stream to its end, or to a read that fails. The turns only make it plain that the loop ends.
-fn read_all(
-    from: &mut impl Read,
+// Reads a stream to its end, or to a read that fails. Where its bytes are known, they are the text that was read. The
+// turns only make it plain that the loop ends.
+fn read_all<R: Read>(
+    from: &mut R,
     line: &mut [u8],
     memory: &mut [u8],
     labels: &mut [u8],
     words: &mut [u64],
 ) -> Got
     requires { Lent line.old memory.old labels.old words.old }
-    ensures { Read result.reader line.new memory.new labels.new words.new }
+    ensures read { Read result.reader line.new memory.new labels.new words.new }
+    ensures whole { IfSome (R.remaining from.old) (ReadWhole result line.new memory.new labels.new words.new) }
 {
     let mut part = [0u8; 65536];
     let mut reader = start();

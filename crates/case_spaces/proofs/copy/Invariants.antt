@@ -1,0 +1,14 @@
+use Prim.Native.Nat.{◌+◌, ◌-◌}
+use mathlib.Core.Path.{◌≡◌, refl, ◌∙◌}
+use native.Mathlib.Omega.{arith}
+use lib.ListN.{length, get_or}
+use Rattle.word.proofs.Sums.{tabulate-length}
+use Rattle.word.proofs.Stores.{Storing, storing_none, storing_more, storing_all, storing-length, filled, entries}
+use Rattle.case_spaces.proofs.copy.Given as goal
+
+-- `case_spaces::copy` meets its contract. The loop's invariant: the bytes passed are copied, and nothing else (`Storing`).
+abbrev pub invariant-loop-i : goal.invariant-loop-i
+invariant-loop-i l = Storing (λ k. get_or l.from (l.at + k) 0) (length l.initial.to) 0 l.initial.to l.to l.i
+
+abbrev pub decreases-loop-i : goal.decreases-loop-i
+decreases-loop-i l = length l.initial.to - l.i
