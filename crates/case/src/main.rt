@@ -1,15 +1,12 @@
 // The case program: reads a case from standard input and prints what its labelled run leaves.
+#![tactic(auto)]
 ghost use Rattle.case_reader.specs.Stream.{Lent};
 ghost use Rattle.case.specs.Read.{Read};
 
 use case_reader::buffers;
 use case_reader::stream::{Reader, read, start};
-
-const STDIN: i32 = 0;
-
-const STDOUT: i32 = 1;
-
-const STDERR: i32 = 2;
+use std::env::{Env, FillError};
+use std::io::{Read, Write};
 
 #[derive(Drop)]
 struct Got {
@@ -17,11 +14,11 @@ struct Got {
     reader: Reader,
 }
 
-fn main() {
-    if 1 < os::arg_count() {
-        io::write_all(
-            STDERR,
-            b"case: it takes no argument, and nothing was run\nusage: case <FILE\nIts exit status is always 0: a script uses run-case.\nWhat it prints holds the secret bytes in clear.\n",
+fn main(rt: HostRuntime) {
+    if has_argument(&rt) {
+        let _ = eprint!(
+            rt;
+            "case: it takes no argument, and nothing was run\nusage: case <FILE\nIts exit status is always 0: a script uses run-case.\nWhat it prints holds the secret bytes in clear.\n"
         );
         return;
     }
@@ -29,53 +26,52 @@ fn main() {
     let mut memory = buffers::spaces();
     let mut labels = buffers::spaces();
     let mut words = buffers::words();
-    let got = read_all(&mut line, &mut memory, &mut labels, &mut words);
+    let got = read_all(&mut rt.stdin(), &mut line, &mut memory, &mut labels, &mut words);
     if got.failed {
-        io::write_all(
-            STDERR,
-            b"case: standard input cannot be read; nothing was printed\n",
-        );
+        let _ = eprint!(rt; "case: standard input cannot be read; nothing was printed\n");
         return;
     }
     let reader = got.reader;
     let mut out = case_output::room();
     let n = case_output::finish(reader, &memory, &labels, &words, &mut out);
-    if !io::write_all(STDOUT, &out[..n]) {
-        io::write_all(
-            STDERR,
-            b"case: standard output cannot be written; what was printed is not complete\n",
+    if rt.stdout().write_all(&out[..n]).is_err() {
+        let _ = eprint!(
+            rt;
+            "case: standard output cannot be written; what was printed is not complete\n"
         );
     }
 }
 
-// Reads standard input to its end, or to a read that fails. The turns only make it plain that the loop ends.
-fn read_all(line: &mut [u8], memory: &mut [u8], labels: &mut [u8], words: &mut [u64]) -> Got
+// Whether the program was given an argument. Argument 0 is its name; a longer one than the buffer is one too.
+fn has_argument(env: &impl Env) -> bool {
+    let mut text = [0u8; 1];
+    !matches!(env.arg(1, &mut text), Err(FillError::NotPresent))
+}
+
+// Reads a stream to its end, or to a read that fails. The turns only make it plain that the loop ends.
+fn read_all(
+    from: &mut impl Read,
+    line: &mut [u8],
+    memory: &mut [u8],
+    labels: &mut [u8],
+    words: &mut [u64],
+) -> Got
     requires { Lent line.old memory.old labels.old words.old }
     ensures { Read result.reader line.new memory.new labels.new words.new }
 {
-    let mut part = io::large_buffer();
+    let mut part = [0u8; 65536];
     let mut reader = start();
-    let mut turns = u64::MAX;
-    while 0 < turns {
-        let got = libc::read(STDIN, &mut part);
-        if got < 0 {
-            return Got {
-                failed: true,
-                reader: reader,
-            };
-        }
-        let n = io::count(got, &part);
+    for _ in 0..u64::MAX {
+        let Ok(n) = from.read(&mut part) else {
+            return Got { failed: true, reader };
+        };
         if n == 0 {
             return Got {
                 failed: false,
-                reader: reader,
+                reader,
             };
         }
         reader = read(reader, &part[..n], line, memory, labels, words);
-        turns -= 1;
     }
-    Got {
-        failed: true,
-        reader: reader,
-    }
+    Got { failed: true, reader }
 }

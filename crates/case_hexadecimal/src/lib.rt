@@ -1,5 +1,6 @@
 // Lowercase hexadecimal text.
 #![tactic(auto)]
+
 ghost use Rattle.std.specs.Prelude.{◌≡◌, ◌+◌, ◌≤◌, length};
 ghost use Rattle.case_hexadecimal.specs.Digits.{word_digits, digit_of, all_digits, number_at};
 

@@ -16,7 +16,7 @@ use word::size::within;
 const MOST_LENGTH: u64 = MOST_CASE_BYTES as u64;
 
 // What the lines of a case say beside its bytes, labels and words.
-#[derive(Drop)]
+#[derive(Clone, Copy)]
 pub struct Header {
     pub settings: Settings,
     pub lengths: Lengths,
@@ -24,7 +24,7 @@ pub struct Header {
     pub operations: usize,
 }
 
-#[derive(Drop)]
+#[derive(Clone, Copy)]
 pub enum Stage {
     Nothing,
     Reading(Header),

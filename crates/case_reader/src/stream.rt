@@ -7,7 +7,7 @@ use crate::limits::LINE_ROOM;
 use crate::line::{Stage, feed};
 
 // How much of the unfinished line stands in the line buffer, how many lines were read, and what they said.
-#[derive(Drop)]
+#[derive(Clone, Copy)]
 pub struct Reader {
     pub have: usize,
     pub number: u64,

@@ -1,5 +1,6 @@
 // Showing a varnode.
 #![tactic(auto)]
+
 ghost use Rattle.std.specs.Prelude.{◌≡◌};
 ghost use Rattle.show.specs.Show.{view, showable, shown_in, shown};
 

@@ -1,4 +1,6 @@
 // What is wrong with a call of the C interface, by its number; 0 where nothing is. Each test is total, so that a new one is one line.
+#![tactic(auto)]
+
 ghost use Rattle.std.specs.Prelude.{◌≡◌};
 ghost use Rattle.undrelvoa_faults.specs.Faults.{sizes_present, value_fault, gather_fault, scatter_fault, length_fault, report_fault, place_fault};
 

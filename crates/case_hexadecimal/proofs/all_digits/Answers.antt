@@ -1,10 +1,6 @@
 use Rattle.case_hexadecimal.proofs.Laws.{digits_end, digits_stop, digits_more}
 use native.Mathlib.Omega.{arith}
 use mathlib.Core.Path.{◌∙◌, sym}
-use lib.ListN.{length, drop}
-use mathlib.Core.Path.{◌≡◌}
-use Prim.Native.Nat.{◌≤◌, ◌-◌}
-use Rattle.case_hexadecimal.specs.Digits.{all_digits}
 use borrow.Author.Rules.{rules}
 use Rattle.case_hexadecimal.proofs.all_digits.Goals as goal
 
@@ -19,4 +15,4 @@ loop-i-preserved c =
     (search rules, l.invariant.1 ∙ digits_more _ l.i (search rules) (omega (arith, c.if-digit-ge16.false, c.digit.ensures)))
 
 pub returns : goal.returns
-returns c = ?
+returns c = digits_end _ c.loop-i.i (search rules) ∙ sym c.loop-i.invariant.1

@@ -1,11 +1,7 @@
-use Rattle.case_hexadecimal.proofs.Laws.{digits_end, digits_stop, digits_more}
-use native.Mathlib.Omega.{arith}
-use mathlib.Core.Path.{◌∙◌, sym}
 use lib.ListN.{length, drop}
 use mathlib.Core.Path.{◌≡◌}
 use Prim.Native.Nat.{◌≤◌, ◌-◌}
 use Rattle.case_hexadecimal.specs.Digits.{all_digits}
-use borrow.Author.Rules.{rules}
 use Rattle.case_hexadecimal.proofs.all_digits.Given as goal
 
 -- `case_hexadecimal::all_digits` meets its contract. The loop's invariant: the characters passed are digits.

@@ -1,6 +1,5 @@
 use borrow.Author.Tests.{lt-ltb, le-ltb}
 use Rattle.case_hexadecimal.specs.Digits.{digit_of}
-use borrow.Author.Rules.{rules}
 use Rattle.case_hexadecimal.proofs.digit.Goals as goal
 
 -- `case_hexadecimal::digit` meets its contract.

@@ -1,11 +1,6 @@
-use Rattle.case_hexadecimal.proofs.Laws.{number_more, number_room}
-use native.Mathlib.Nat.{mod-lt}
-use mathlib.Core.Path.{◌∙◌}
-use native.Mathlib.Omega.{arith}
 use mathlib.Core.Path.{◌≡◌}
 use Prim.Native.Nat.{◌≤◌, ◌-◌}
 use Rattle.case_hexadecimal.specs.Digits.{number_at}
-use borrow.Author.Rules.{rules}
 use Rattle.case_hexadecimal.proofs.number.Given as goal
 
 -- `case_hexadecimal::number` meets its contract. The loop's invariant: the number of the digits passed.

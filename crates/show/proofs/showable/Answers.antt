@@ -1,5 +1,4 @@
 use mathlib.Core.Path.{refl}
-use borrow.Author.Rules.{rules}
 use Rattle.show.specs.Show.{showable}
 use Rattle.show.proofs.showable.Goals as goal
 

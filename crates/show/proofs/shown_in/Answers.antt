@@ -1,6 +1,5 @@
 use mathlib.Core.Path.{sym, ◌∙◌}
 use native.Mathlib.Omega.{arith}
-use borrow.Author.Rules.{rules}
 use Rattle.show.proofs.Parts.{showable_end, end_less_start}
 use Rattle.show.specs.Show.{shown_in}
 use Rattle.show.proofs.shown_in.Goals as goal
@@ -10,7 +9,7 @@ pub overflow_add-end : goal.overflow_add-end
 overflow_add-end c = omega (arith, showable_end _ _ _ (sym c.showable.ensures ∙ c.if-showable.true))
 
 pub slice_bounds-result-end : goal.slice_bounds-result-end
-slice_bounds-result-end c = ?
+slice_bounds-result-end c = omega (arith, showable_end _ _ _ (sym c.showable.ensures ∙ c.if-showable.true))
 
 pub returns-then-showable : goal.returns-then-showable
 unfolding shown_in

@@ -1,0 +1,8 @@
+use native.Mathlib.Omega.{arith}
+use Rattle.case_printing.specs.Text.{word_line}
+use Rattle.case_printing.proofs.Appending.{then_one}
+use Rattle.case_printing.proofs.text.put_word.Goals as goal
+
+pub returns : goal.returns
+unfolding word_line
+returns c = then_one c.put_hex-p.ensures.appended _ (omega arith)

@@ -1,0 +1,21 @@
+use Prim.Native.Nat.{◌-◌}
+use native.Mathlib.Omega.{arith}
+use mathlib.Core.Path.{◌≡◌, sym, ap, ◌∙◌}
+use Rattle.operation.specs.declared.layout.Lengths.{Lengths}
+use Rattle.operation.specs.Layout.{operation_count}
+use Rattle.machine.specs.Program.{program_of}
+use Rattle.machine.specs.Memory.{spaces, lengths_of}
+use Rattle.run_memory.proofs.Spaces.{of_bytes}
+use Rattle.run_execution.proofs.Running.{Going, begun, at_end, at_budget, may_plan, at_stop, at_full, may_log, may_push, may_write, logs_kept, at_exit, at_next}
+use borrow.Author.Rules.{rules}
+use Rattle.run_execution.proofs.run_from.Given as goal
+
+-- `run_execution::run_from` meets its contract.
+-- what is left to do from here is the whole run
+abbrev pub invariant-loop-i : goal.invariant-loop-i
+invariant-loop-i l =
+    (l.count ≡ operation_count l.list)
+    × Going (program_of l.settings l.list) l.budget l.start l.from l.initial.log (spaces l.initial.unique l.initial.register l.initial.ram) l.i l.executed l.k l.log (spaces l.unique l.register l.ram)
+
+abbrev pub decreases-loop-i : goal.decreases-loop-i
+decreases-loop-i l = l.budget - l.executed

@@ -1,0 +1,16 @@
+use native.Mathlib.Omega.{arith}
+use mathlib.Core.Path.{ap}
+use borrow.Author.Rules.{rules}
+use Rattle.operation.specs.declared.layout.Lengths.{Lengths}
+use Rattle.machine.specs.Memory.{spaces, lengths_of}
+use Rattle.run_journal.proofs.Undoing.{Undoing, undoing_none, count_lengths, undoing_all, entry_fits, bytes_placed, labels_placed, undoing_more}
+use Rattle.run_journal.proofs.undo.Given as goal
+
+-- `run_journal::undo` meets its contract.
+-- what is left to undo gives the whole; u, r and m are the labels of unique, register and ram, and uc, rc and mc their counts
+abbrev pub invariant-loop-k : goal.invariant-loop-k
+invariant-loop-k l =
+    Undoing l.journal l.n (spaces l.initial.unique_labels l.initial.register_labels l.initial.ram_labels) (spaces l.initial.unique l.initial.register l.initial.ram) (spaces l.initial.unique_counts l.initial.register_counts l.initial.ram_counts) l.k (spaces l.unique_labels l.register_labels l.ram_labels) (spaces l.unique l.register l.ram) (spaces l.unique_counts l.register_counts l.ram_counts)
+
+abbrev pub decreases-loop-k : goal.decreases-loop-k
+decreases-loop-k l = l.k

@@ -1,0 +1,10 @@
+use mathlib.Core.Path.{refl, ◌∙◌}
+use Rattle.run_labelled.specs.Turns.{completes}
+use borrow.Author.Rules.{rules}
+use Rattle.run_labelled.proofs.completes.Goals as goal
+
+-- `run_labelled::completes` meets its contract.
+pub returns : goal.returns
+unfolding completes
+returns c =
+    c.both-2.ensures ∙ rw c.both.ensures refl

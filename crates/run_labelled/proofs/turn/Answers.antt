@@ -1,0 +1,15 @@
+use mathlib.Core.Path.{refl, sym, ◌∙◌}
+use Rattle.run_labelled.specs.Turns.{turn_of}
+use borrow.Author.Rules.{rules}
+use Rattle.run_labelled.proofs.turn.Goals as goal
+
+-- `run_labelled::turn` meets its contract.
+pub returns-then-both : goal.returns-then-both
+unfolding turn_of
+returns-then-both c =
+    rw (sym c.both.ensures ∙ c.if-both.true) refl
+
+pub returns-else-both : goal.returns-else-both
+unfolding turn_of
+returns-else-both c =
+    rw (sym c.both.ensures ∙ c.if-both.false) refl

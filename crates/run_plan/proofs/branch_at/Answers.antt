@@ -1,0 +1,23 @@
+use Rattle.machine.specs.Effect.{operation_at}
+use Rattle.run_plan.proofs.Planning.{code_skips, code_leaves, code_follows}
+use Rattle.std.proofs.Common.{rules}
+use Rattle.run_plan.proofs.branch_at.Goals as goal
+
+-- `run_plan::branch_at` meets its contract.
+pub returns-then-both : goal.returns-then-both
+unfolding operation_at
+returns-then-both c =
+    code_skips _ _ _ _ _ c.opcode_at-conditional.ensures c.varnode_at-input0.ensures c.requires.2 _ c.both.ensures _
+    c.if-both.true c.control.ensures
+
+pub returns-then-input0-eq4 : goal.returns-then-input0-eq4
+unfolding operation_at
+returns-then-input0-eq4 c =
+    code_leaves _ _ _ _ _ c.opcode_at-conditional.ensures c.varnode_at-input0.ensures c.requires.2 _ c.both.ensures _
+    _ c.flag-low.ensures c.if-both.false c.if-input0-eq4.true c.control-then-input0-eq4.ensures
+
+pub returns : goal.returns
+unfolding operation_at
+returns c =
+    code_follows _ _ _ _ _ c.opcode_at-conditional.ensures c.varnode_at-input0.ensures c.requires.2 _ c.both.ensures _
+    _ c.flag-low.ensures c.if-both.false c.if-input0-eq4.false _ c.wrapping_add_u64-next.ensures.value c.control-2.ensures

@@ -1,0 +1,37 @@
+use Rattle.machine.specs.Effect.{operation_at}
+use Rattle.run_plan.proofs.Planning.{code-jumps, code_copies, code_by-zero, may_compute, code_computes}
+use Rattle.std.proofs.Common.{rules}
+use Rattle.run_plan.proofs.data_at.Goals as goal
+
+-- `run_plan::data_at` meets its contract.
+pub returns-then-jumps : goal.returns-then-jumps
+unfolding operation_at
+returns-then-jumps c =
+    code-jumps _ _ _ _ c.opcode_at-opcode.ensures c.requires.2 _ c.jumps.ensures _ _ c.if-jumps.true c.control.ensures
+
+pub returns-then-opcode-lt-FIRST_INTEGER : goal.returns-then-opcode-lt-FIRST_INTEGER
+unfolding operation_at
+returns-then-opcode-lt-FIRST_INTEGER c =
+    code_copies _ _ _ _ c.opcode_at-opcode.ensures c.requires.2 _ c.jumps.ensures c.if-opcode-lt-FIRST_INTEGER.true c.if-jumps.false
+    _ _ _ c.varnode_at-output.ensures c.writes.ensures
+
+pub returns-then-both : goal.returns-then-both
+unfolding operation_at
+returns-then-both c =
+    code_by-zero _ _ _ _ c.opcode_at-opcode.ensures c.requires.2 c.if-opcode-lt-FIRST_INTEGER.false
+    _ _ c.is_division.ensures c.both.ensures _ _ c.if-both.true c.control-then-both.ensures
+
+pub value-x-requires : goal.value-x-requires
+unfolding operation_at
+value-x-requires c =
+    may_compute _ _ _ _ c.opcode_at-opcode.ensures c.requires.2 c.if-opcode-lt-FIRST_INTEGER.false
+    _ _ c.is_division.ensures c.both.ensures c.if-both.false
+    _ _ _ c.varnode_at-output.ensures c.varnode_at-input0.ensures c.varnode_at-input1.ensures
+
+pub returns : goal.returns
+unfolding operation_at
+returns c =
+    code_computes _ _ _ _ c.opcode_at-opcode.ensures c.requires.2 c.if-opcode-lt-FIRST_INTEGER.false
+    _ _ c.is_division.ensures c.both.ensures c.if-both.false
+    _ _ _ c.varnode_at-output.ensures c.varnode_at-input0.ensures c.varnode_at-input1.ensures
+    _ _ _ c.value-x.ensures c.writes-2.ensures

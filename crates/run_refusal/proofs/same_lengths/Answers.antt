@@ -1,0 +1,10 @@
+use mathlib.Core.Path.{refl}
+use borrow.Author.Rules.{rules}
+use Rattle.machine.specs.Calls.{same_lengths}
+use Rattle.run_refusal.proofs.same_lengths.Goals as goal
+
+-- `run_refusal::same_lengths` meets its contract.
+pub returns : goal.returns
+unfolding same_lengths
+returns c =
+    rw (c.both-2.ensures, c.both.ensures) refl

@@ -1,0 +1,9 @@
+use mathlib.Core.Path.{refl}
+use Rattle.machine.specs.Effect.{operation_at, pointee}
+use borrow.Author.Rules.{rules}
+use Rattle.run_taint.proofs.pointee_at.Goals as goal
+
+-- `run_taint::pointee_at` meets its contract.
+pub returns : goal.returns
+unfolding operation_at pointee
+returns c = rw c.varnode_at-input0.ensures refl

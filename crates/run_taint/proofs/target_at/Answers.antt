@@ -1,0 +1,17 @@
+use mathlib.Core.Path.{◌∙◌}
+use Rattle.machine.specs.Effect.{operation_at}
+use Rattle.run_plan.proofs.Opcodes.{opcode_is, opcode_is-not}
+use Rattle.run_taint.proofs.Tainting.{stores, outputs}
+use borrow.Author.Rules.{rules}
+use Rattle.run_taint.proofs.target_at.Goals as goal
+
+-- `run_taint::target_at` meets its contract.
+pub returns-then-opcode_at-eq3 : goal.returns-then-opcode_at-eq3
+unfolding operation_at
+returns-then-opcode_at-eq3 c =
+    c.pointee_at.ensures ∙ rw c.varnode_at-input2.ensures (stores _ _ (opcode_is 3 c.opcode_at.ensures c.if-opcode_at-eq3.true))
+
+pub returns : goal.returns
+unfolding operation_at
+returns c =
+    c.varnode_at.ensures ∙ outputs _ _ (opcode_is-not 3 c.opcode_at.ensures c.if-opcode_at-eq3.false)
