@@ -11,7 +11,11 @@ fn main() {
     println!("cargo:rerun-if-changed={}", archive.display());
     if !archive.is_file() {
         eprintln!("There is no static library to time: target/staticlib/libundrelvoa.a.");
-        eprintln!("Make it in the repository's root with: rt staticlib undrelvoa");
+        eprintln!("Make it in the repository's root with:");
+        eprintln!("    (cd crates/undrelvoa && rt lib)");
+        eprintln!(
+            "    install -D crates/undrelvoa/out/libundrelvoa.a target/staticlib/libundrelvoa.a"
+        );
         exit(1);
     }
     println!("cargo:rustc-link-search=native={}", directory.display());

@@ -1,7 +1,7 @@
 /* The C interface of Undrelvoa, the proved p-code interpreter. docs/REFERENCE.md has every rule; examples/
  * has programs in C and in Rust.
  *
- * Link target/staticlib/libundrelvoa.a, which `rt staticlib undrelvoa` makes, for x86-64 Linux (its C calling
+ * Link target/staticlib/libundrelvoa.a, which README.md says how to make, for x86-64 Linux (its C calling
  * convention). It needs no other library, not even the C library.
  *
  * Calls. Every function takes every number; of buffers it asks what the next paragraph says. It answers an

@@ -46,7 +46,7 @@ impl CaseProgram {
         assert!(
             path.is_file(),
             "there is no case program to test at {}\n\
-             make it in the repository's root with: rt check case",
+             make it in the repository's root with: ./run-case </dev/null",
             path.display()
         );
         CaseProgram { path }

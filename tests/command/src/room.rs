@@ -90,7 +90,7 @@ pub fn own_built_command() -> PathBuf {
 /// The case program that the repository's proofs made.
 pub fn own_program() -> PathBuf {
     let path = repository().join("target/bin/case");
-    assert!(path.is_file(), "there is no {}: make it with rt check case", path.display());
+    assert!(path.is_file(), "there is no {}: make it with run-case", path.display());
     path
 }
 
@@ -107,28 +107,39 @@ pub const QUICK_PROGRAM: &str = "#!/bin/sh\ncat >/dev/null\necho '0 0 0 0 0'\n";
 /// What the quick program prints.
 pub const REPORT: &str = "0 0 0 0 0\n";
 
-/// Prints what rt prints for the crates of a small repository, and makes the program unless its stamp
-/// says that it did. It notes each call, and whether it was ever called while another call ran.
+/// Prints what rt prints in the folder of a crate, and makes the program unless its stamp says that it
+/// did. It notes each call, and whether it was ever called while another call ran. The lowest crate has
+/// not changed. Where it was told so, it takes 2 s to prove the next, and 3 s for the program.
 const RT: &str = r#"#!/bin/sh
 tools=$(dirname "$0")
-echo "$*" >>"$tools/calls"
+crate=$(basename "$PWD")
+echo "$crate: $*" >>"$tools/calls"
 exec 8>"$tools/busy"
 flock -n 8 || touch "$tools/two at once"
-[ ! -f "$tools/before" ] || . "$tools/before"
-echo 'rt: low proved (unchanged since it was last proved)'
-echo 'fn middle::half: proved'
-echo 'rt: middle proved (2 s)'
-[ ! -f "$tools/between" ] || . "$tools/between"
-sum=$(cat crates/*/src/*.rt | cksum)
-if [ "$(cat target/stamp/case 2>/dev/null)" = "$sum" ]; then
-    echo 'rt: case proved (unchanged since it was last proved)'
-else
-    cp "$tools/program" target/bin/case
-    echo 'rt: case proved (3 s)'
-    echo "rt: case ran as nobody, and wrote what its file 'stdout' has (0 s)"
-    echo "$sum" >target/stamp/case
-fi
-echo 'rt: ok, 3 crates proved'
+case $crate in
+low)
+    [ ! -f "$tools/before" ] || (cd ../.. && . "$tools/before") || exit
+    ;;
+middle)
+    [ ! -f "$tools/slow" ] || sleep 2
+    echo 'fn middle::half: proved'
+    echo 'logic=proved functions=1'
+    ;;
+case)
+    if [ -f "$tools/between" ]; then cd ../..; . "$tools/between"; cd crates/case; fi
+    sum() { cat ../*/src/*.rt out/case 2>/dev/null | cksum; }
+    if [ "$(cat out/case.stamp 2>/dev/null)" = "$(sum)" ]; then
+        echo 'rt: nothing has changed since the last proved build, by out/case.stamp, so nothing is checked now'
+    else
+        [ ! -f "$tools/slow" ] || sleep 3
+        cp "$tools/program" out/case
+        echo 'fn case::main: proved'
+        echo 'logic=proved functions=1 axioms=3'
+        sum >out/case.stamp
+    fi
+    echo 'rt: running out/case; to give it other input, run that file yourself'
+    ;;
+esac
 "#;
 
 /// A repository of four crates, of which three make the program, with a stand-in for `rt` in `tools`.
@@ -144,7 +155,7 @@ impl SmallRepository {
         fs::copy(repository().join("VERSION"), room.path().join("VERSION")).expect("VERSION");
         room.write(
             "crates.txt",
-            "# crates\nlow:\nmiddle: low # on low\naside: low\n\ncase: io libc middle low\n",
+            "# crates\nlow:\nmiddle: low # on low\naside: low\n\ncase: middle low\n",
         );
         for (name, file) in [("low", "lib"), ("middle", "lib"), ("aside", "lib"), ("case", "main")]
         {
@@ -175,13 +186,19 @@ impl SmallRepository {
         self
     }
 
-    /// What the stand-in does before it has named a crate.
+    /// Has the stand-in take its time.
+    pub fn slow(self) -> SmallRepository {
+        self.room.write("tools/slow", "");
+        self
+    }
+
+    /// What the stand-in does, at the top of the repository, before the first crate.
     pub fn with_first(self, script: &str) -> SmallRepository {
         self.room.write("tools/before", script);
         self
     }
 
-    /// What the stand-in does after two crates, before it makes the program.
+    /// What the stand-in does there after two crates, before it makes the program.
     pub fn with_then(self, script: &str) -> SmallRepository {
         self.room.write("tools/between", script);
         self
@@ -218,12 +235,20 @@ impl SmallRepository {
         self.path(name).exists()
     }
 
-    /// How often `rt` was called.
+    /// How often `rt` was called to build, each time for one crate after another.
     pub fn calls(&self) -> usize {
         assert!(!self.has("tools/two at once"), "rt was called while it ran");
         let calls = fs::read_to_string(self.path("tools/calls")).unwrap_or_default();
-        assert!(calls.lines().all(|call| call == "check case"), "rt was called as {calls:?}");
-        calls.lines().count()
+        let mut builds = 0;
+        let mut next = 0;
+        for call in calls.lines() {
+            // A build that failed may have ended at any crate.
+            next = if call == IN_TURN[0] { 0 } else { next };
+            assert_eq!(Some(&call), IN_TURN.get(next), "rt was called as {calls:?}");
+            builds += usize::from(next == 0);
+            next += 1;
+        }
+        builds
     }
 
     /// The stand-in waits for this where it was told `WAIT`.
@@ -231,6 +256,9 @@ impl SmallRepository {
         self.room.write("tools/go", "");
     }
 }
+
+/// The calls of one build.
+const IN_TURN: [&str; 3] = ["low: lib", "middle: lib", "case: run"];
 
 impl Default for SmallRepository {
     fn default() -> SmallRepository {

@@ -36,7 +36,7 @@ fn assert_builds(small: &SmallRepository, what: &str) {
 
 #[test]
 fn each_new_crate_is_told() {
-    let small = SmallRepository::new();
+    let small = SmallRepository::new().slow();
     let expected = "run-case: proved middle in 2 s, 2 of 3 crates\n\
                     run-case: proved case in 3 s, 3 of 3 crates\n";
     assert_eq!(told(&small), expected);
@@ -106,11 +106,7 @@ fn a_program_of_other_sources_is_built() {
     let source = fs::read_to_string(small.path("crates/low/src/lib.rt")).expect("a source");
     small.room.write("crates/low/src/lib.rt", "// another\n");
     let small = small.with_program("#!/bin/sh\necho '41 1 0 0 0'\n");
-    let by_hand = Command::new(small.path("tools/rt"))
-        .args(["check", "case"])
-        .current_dir(small.room.path())
-        .output();
-    assert!(by_hand.expect("the stand-in").status.success());
+    assert_eq!(run(&mut small.command()).stdout, "41 1 0 0 0\n");
     small.room.write("crates/low/src/lib.rt", &source);
     assert_builds(
         &small.with_program(QUICK_PROGRAM),
@@ -201,7 +197,7 @@ fn one_of_two_fails() {
 fn a_failure_shows_the_last_lines() {
     let failing =
         "for line in $(seq 30); do echo \"line $line\"; done\necho 'rt: FAILED: case'\nexit 1\n";
-    let small = SmallRepository::new().with_then(failing);
+    let small = SmallRepository::new().slow().with_then(failing);
     let Ended { stdout, stderr, status } = run(&mut small.command());
     assert_eq!((status, stdout.as_str()), (69, ""));
     let lines: Vec<&str> = stderr.lines().collect();
@@ -211,6 +207,7 @@ fn a_failure_shows_the_last_lines() {
     assert_eq!(lines[20], "rt: FAILED: case");
     assert_eq!(lines.len(), 22, "{stderr}");
     fs::remove_file(small.path("tools/between")).expect("a file");
+    fs::remove_file(small.path("tools/slow")).expect("a file");
     assert_builds(&small, "after a failure");
 }
 
@@ -254,7 +251,7 @@ fn the_line_fits_the_terminal() {
 
 #[test]
 fn a_plain_terminal_shows_lines() {
-    let small = SmallRepository::new();
+    let small = SmallRepository::new().slow();
     let ended = Terminal::new().start_as("dumb", &mut small.command()).end();
     let lines = ["proved middle in 2 s, 2 of 3 crates", "proved case in 3 s, 3 of 3 crates"];
     assert_eq!(ended.stderr, lines.map(|line| format!("run-case: {line}\r\n")).concat());
@@ -271,7 +268,9 @@ fn one_line_moves_while_running() {
 #[test]
 fn no_line_moves_where_it_is_no_terminal() {
     let small = SmallRepository::built().with_program("#!/bin/sh\nsleep 2.5\necho '2 0 0 0 0'\n");
-    fs::remove_file(small.path("target/bin/case")).expect("a program");
+    for name in ["target/bin/case", "crates/case/out/case"] {
+        fs::remove_file(small.path(name)).expect("a program");
+    }
     let ended = run(&mut small.command());
     assert_eq!((ended.status, ended.stdout.as_str()), (2, "2 0 0 0 0\n"));
     assert!(

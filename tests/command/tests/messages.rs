@@ -67,7 +67,7 @@ fn while_building() -> impl IntoIterator<Item = Scenario> {
     const UNWRITTEN: &str = "target is not a folder that can be written";
     [
         reporting("a crate is proved", 0, "proved middle in 2 s, 2 of 3 crates", || {
-            run(&mut SmallRepository::new().command())
+            run(&mut SmallRepository::new().slow().command())
         }),
         reporting(
             "a first crate that takes long",
@@ -99,7 +99,7 @@ fn while_building() -> impl IntoIterator<Item = Scenario> {
         }),
         silent("target is of others", 69, UNWRITTEN, || of_others("target")),
         silent("the top is of others", 69, UNWRITTEN, || of_others("")),
-        silent("a part is of others", 69, "target/log is not a folder", || of_others("target/log")),
+        silent("a part is of others", 69, "target/bin is not a folder", || of_others("target/bin")),
         silent("no rt", 69, "rt is not on PATH", || without("rt")),
         silent("no awk", 69, "awk is not on PATH", || without("awk")),
         silent("no dd", 69, "dd is not on PATH", || without("dd")),
@@ -110,14 +110,19 @@ fn while_building() -> impl IntoIterator<Item = Scenario> {
         }),
         silent("no flock", 69, "flock is not on PATH", || without("flock")),
         silent("no setsid", 69, "setsid is not on PATH", || without("setsid")),
-        silent("a proof fails", 69, "not built, rt check case ended with status 1: ", || {
+        silent("a proof fails", 69, "not built, rt ended with status 1 in ", || {
             run(&mut SmallRepository::new().with_then("exit 1\n").command())
         }),
-        silent("rt is killed", 69, "not built, rt check case ended with status 137: ", || {
+        silent("rt is killed", 69, "not built, rt ended with status 137 in ", || {
             run(&mut SmallRepository::new().with_first("kill -KILL $$\n").command())
         }),
-        silent("no program is made", 69, "rt check case made no ", || {
+        silent("no program is made", 69, "rt run made no ", || {
             run(&mut SmallRepository::new().with_then("exit 0\n").command())
+        }),
+        silent("a folder has the program's name", 69, "target/bin/case cannot be written", || {
+            let small = SmallRepository::new();
+            fs::create_dir_all(small.path("target/bin/case")).expect("folders");
+            run(&mut small.command())
         }),
     ]
 }
@@ -274,7 +279,7 @@ fn without(tool: &str) -> Ended {
     let (small, few) = (SmallRepository::new(), Room::new());
     let path = path_with(&small.path("tools"));
     let used =
-        "bash awk cat dd find head mkdir readlink rm sha256sum sleep sort xargs rt flock setsid";
+        "bash awk cat cp dd find mkdir mv readlink sha256sum sleep sort xargs rt flock setsid";
     for name in used.split(' ').filter(|name| *name != tool) {
         let place =
             env::split_paths(&path).map(|folder| folder.join(name)).find(|place| place.exists());
@@ -300,7 +305,8 @@ fn check(scenario: &Scenario) -> Vec<String> {
     let told: Vec<String> = shown.split(['\r', '\n']).map(str::to_string).collect();
     for line in told.iter().filter(|line| !line.is_empty()) {
         // Where a proof fails, rt's lines are shown.
-        let known = ["run-case: ", "rt: ", "fn "].iter().any(|start| line.starts_with(start));
+        let known =
+            ["run-case: ", "rt: ", "fn ", "logic="].iter().any(|start| line.starts_with(start));
         assert!(known, "{}: who says {line:?}?", scenario.name);
     }
     let says =

@@ -12,32 +12,43 @@ use command::system::{INT, TERM};
 use command::terminal::{seen, Terminal};
 
 const LIBRARY: &str = "\
-ghost use mathlib.Core.Path.{_≡_};
+#![tactic(auto)]
+
+ghost use Rattle.std.specs.Prelude.{◌≡◌};
 
 pub fn seven() -> usize
-    ensures { λ r. ⌜ r ≡ 7 ⌝ }
+    ensures { result ≡ 7 }
 {
     7
 }
 ";
 
 const PROGRAM: &str = "\
-fn main() {
-    let report = [b'0', b' ', b'0', b' ', b'0', b' ', b'0', b' ', b'0', b'\\n'];
-    io::write_all(1, &report);
+#![tactic(auto)]
+
+use std::io;
+
+fn main(rt: HostRuntime) -> io::Result<()> {
+    println!(rt; \"0 0 0 0 0\")
 }
 ";
 
 /// The program's words in the list of processes.
 const PROVER: &str = "rattle build";
 
+/// The library as no other repository has it: rt takes from another one what that has proved of the same
+/// text.
+fn library(room: &Room) -> String {
+    format!("// {}\n{LIBRARY}", room.path().display())
+}
+
 /// A program and the library below it, not yet proved.
 fn two_crates() -> Room {
     let room = Room::new();
     room.copy_program(&own_command(), "run-case");
     fs::copy(repository().join("VERSION"), room.path().join("VERSION")).expect("VERSION");
-    room.write("crates.txt", "# two\nsmall:\ncase: io libc small\n");
-    room.write("crates/small/src/lib.rt", LIBRARY);
+    room.write("crates.txt", "# two\nsmall:\ncase: small\n");
+    room.write("crates/small/src/lib.rt", &library(&room));
     room.write("crates/case/src/main.rt", PROGRAM);
     room.write("crates/case/stdout", REPORT);
     room
@@ -79,7 +90,9 @@ fn two_at_once_prove_once() {
     assert_report(&again);
     assert_eq!(again.stderr, "");
 
-    fs::remove_file(path(&room, "target/bin/case")).expect("a program");
+    for name in ["target/bin/case", "crates/case/out/case"] {
+        fs::remove_file(path(&room, name)).expect("a program");
+    }
     let again = run(&mut command(&room));
     assert_report(&again);
     assert_eq!(proved(&again), ["case"]);
@@ -118,13 +131,12 @@ fn an_interrupt_ends_the_prover() {
 #[test]
 fn a_crate_that_is_not_proved() {
     let room = two_crates();
-    room.write("crates/small/src/lib.rt", &LIBRARY.replace("≡ 7", "≡ 8"));
+    room.write("crates/small/src/lib.rt", &library(&room).replace("≡ 7", "≡ 8"));
     let ended = run(&mut command(&room));
     assert_eq!((ended.status, ended.stdout.as_str()), (69, ""));
-    for said in [
-        "rt: small NOT PROVED",
-        "run-case: the case program was not built, rt check case ended with status 1: ",
-    ] {
+    for said in
+        ["logic=not-proved", "run-case: the case program was not built, rt ended with status 1 in "]
+    {
         assert!(ended.stderr.contains(said), "no {said:?} in {}", ended.stderr);
     }
 }

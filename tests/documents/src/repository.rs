@@ -13,7 +13,7 @@ pub struct Repository {
 }
 
 impl Repository {
-    /// Reads all but `.git` and the `target` folders, which no clone has.
+    /// Reads all but `.git` and the folders `target` and `out`, which no clone has.
     pub fn read(top: &Path) -> io::Result<Repository> {
         let mut repository = Repository::default();
         repository.read_folder(top, "")?;
@@ -37,7 +37,7 @@ impl Repository {
             if !entry.file_type()?.is_dir() {
                 let text = String::from_utf8_lossy(&fs::read(entry.path())?).into_owned();
                 self.files.insert(path, text);
-            } else if name != "target" {
+            } else if name != "target" && name != "out" {
                 self.read_folder(&entry.path(), &format!("{path}/"))?;
             }
         }
