@@ -1,0 +1,18 @@
+use mathlib.Core.Path.{refl, ap, sym, ◌∙◌}
+use borrow.Author.Tests.{ne_eqb}
+use borrow.Author.Rules.{rules}
+use Rattle.undrelvoa_faults.proofs.Passed.{report-passed}
+use Rattle.undrelvoa.specs.Buffers.{after_counting}
+use Rattle.undrelvoa.proofs.undrelvoa_count_secrets.Goals as goal
+
+pub write_report-requires : goal.write_report-requires
+write_report-requires c =
+    report-passed _ (sym c.of_report-fault.ensures ∙ c.if-fault-ne0.false)
+
+pub returns : goal.returns
+unfolding after_counting
+returns c =
+     record {
+      answer = sym c.if-fault-ne0.false ∙ c.of_report-fault.ensures;
+      buffers = rw c.write_report.ensures (ap (after_counting _) c.count_secrets-counted.ensures);
+    }

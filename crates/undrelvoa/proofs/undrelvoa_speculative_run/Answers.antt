@@ -1,0 +1,21 @@
+use mathlib.Core.Path.{refl, ap, sym, ◌∙◌}
+use borrow.Author.Tests.{ne_eqb}
+use borrow.Author.Rules.{rules}
+use Rattle.undrelvoa_faults.proofs.Passed.{lengths-passed}
+use Rattle.undrelvoa.specs.Buffers.{after, after_speculation}
+use Rattle.undrelvoa.proofs.undrelvoa_speculative_run.Goals as goal
+
+pub settings_in-settings-requires : goal.settings_in-settings-requires
+settings_in-settings-requires c = (lengths-passed _ _ (sym c.of_lengths-fault.ensures ∙ c.if-fault-ne0.false)).0
+
+pub write_report-requires : goal.write_report-requires
+write_report-requires c =
+    (lengths-passed _ _ (sym c.of_lengths-fault.ensures ∙ c.if-fault-ne0.false)).1
+
+pub returns : goal.returns
+unfolding after after_speculation
+returns c =
+     record {
+      answer = sym c.if-fault-ne0.false ∙ c.of_lengths-fault.ensures;
+      buffers = rw (c.write_report.ensures, sym c.settings_in-settings.ensures) (ap (after_speculation _) c.speculative_run-ran.ensures);
+    }

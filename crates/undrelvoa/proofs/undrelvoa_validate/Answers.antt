@@ -1,0 +1,21 @@
+use mathlib.Core.Path.{refl, sym, ◌∙◌}
+use borrow.Author.Tests.{ne_eqb}
+use borrow.Author.Rules.{rules}
+use Rattle.undrelvoa_faults.proofs.Passed.{lengths-passed}
+use Rattle.undrelvoa.specs.Answers.{verdict_words}
+use Rattle.undrelvoa.proofs.undrelvoa_validate.Goals as goal
+
+pub settings_in-settings-requires : goal.settings_in-settings-requires
+settings_in-settings-requires c = (lengths-passed _ _ (sym c.of_lengths-fault.ensures ∙ c.if-fault-ne0.false)).0
+
+pub write_report-requires : goal.write_report-requires
+write_report-requires c =
+    (lengths-passed _ _ (sym c.of_lengths-fault.ensures ∙ c.if-fault-ne0.false)).1
+
+pub returns : goal.returns
+unfolding verdict_words
+returns c =
+     record {
+      answer = sym c.if-fault-ne0.false ∙ c.of_lengths-fault.ensures;
+      buffer = c.write_report.ensures ∙ rw (c.validate-verdict.ensures, c.settings_in-settings.ensures) refl;
+    }
