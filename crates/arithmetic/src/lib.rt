@@ -1,5 +1,6 @@
 // The values of the integer operations, by opcode.
 #![tactic(auto)]
+
 ghost use Rattle.std.specs.Prelude.{◌≡◌};
 ghost use Rattle.arithmetic.specs.Operands.{Operands};
 ghost use Rattle.arithmetic.specs.Result.{lookup, integer_results, result_of};

@@ -1,5 +1,6 @@
 // The values of the integer operations, one by one.
 #![tactic(auto)]
+
 pub mod boolean;
 pub mod signed;
 pub mod unsigned;

@@ -1,5 +1,6 @@
 // How many bytes of a space are secret: a count for each block of 64 bytes, then the total.
 #![tactic(auto)]
+
 ghost use Rattle.std.specs.Prelude.{◌≡◌, ◌+◌, ◌%◌, ◌^◌, ◌<◌, ◌≤◌, min, false, length, slice_index, slice_set};
 ghost use Rattle.word.specs.Word.{bytes_of};
 ghost use Rattle.secret_counts.specs.Recount.{blocks, count_words, secrets, block_of, filled};

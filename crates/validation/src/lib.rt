@@ -1,5 +1,6 @@
 // The papers' judge: the verdict on a list of operations.
 #![tactic(auto)]
+
 ghost use Rattle.std.specs.Prelude.{◌≡◌, ◌+◌, ◌*◌, ◌≤◌, length};
 ghost use Rattle.operation.specs.Layout.{words_per_operation};
 ghost use Rattle.validation.specs.Verdict.{wordsizes_in_range, settings_in_range, lengths_in_range, size_or_target, malformed, verdict, refusal_report};

@@ -1,7 +1,6 @@
 use Prim.Native.Nat.{suc, ◌-◌, ◌^◌, ◌<◌}
 use mathlib.Core.Path.{refl, sym, ap, ◌∙◌}
 use native.Mathlib.Omega.{arith}
-use borrow.Author.Rules.{rules}
 use Rattle.word.specs.Sum.{tabulate}
 use Rattle.integer.proofs.Bits.{negate_is, xor_is, and_is, or_is}
 use Rattle.integer.proofs.Booleans.{not-not}

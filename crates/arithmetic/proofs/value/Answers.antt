@@ -1,4 +1,3 @@
-use borrow.Author.Rules.{rules}
 use Rattle.arithmetic.specs.Result.{result_of}
 use Rattle.arithmetic.proofs.value.Goals as goal
 

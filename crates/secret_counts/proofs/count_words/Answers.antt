@@ -1,4 +1,4 @@
-use Rattle.std.proofs.Common.{arith, rules}
+use Rattle.std.proofs.Common.{arith}
 use Rattle.secret_counts.specs.Recount.{blocks, count_words}
 use Rattle.secret_counts.proofs.count_words.Goals as goal
 

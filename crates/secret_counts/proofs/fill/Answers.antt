@@ -1,6 +1,6 @@
-use Rattle.std.proofs.Common.{◌≡◌, ◌+◌, ◌-◌, ◌*◌, length, take, sym, refl, ap, ◌∙◌, zero-add, arith, length-set, length-take, rules}
-use Rattle.word.proofs.Stores.{Storing, storing_none, storing_more, storing_all, storing-length}
-use Rattle.secret_counts.specs.Recount.{blocks, count_words, secrets, block_of}
+use Rattle.std.proofs.Common.{◌≡◌, ◌+◌, ◌-◌, ◌*◌, length, take, sym, refl, ap, ◌∙◌, zero-add, arith, length-take}
+use Rattle.word.proofs.Stores.{storing_none, storing_more, storing_all, storing-length}
+use Rattle.secret_counts.specs.Recount.{blocks, count_words, secrets}
 use Rattle.secret_counts.proofs.Filling.{secrets_few, total_more, total_all, counts-filled}
 use Rattle.secret_counts.proofs.fill.Goals as goal
 

@@ -1,7 +1,6 @@
-use Rattle.std.proofs.Common.{◌≡◌, ◌+◌, ◌-◌, ◌*◌, length, take, sym, refl, ap, ◌∙◌, zero-add, arith, length-set, length-take, rules}
-use Rattle.word.proofs.Stores.{Storing, storing_none, storing_more, storing_all, storing-length}
-use Rattle.secret_counts.specs.Recount.{blocks, count_words, secrets, block_of}
-use Rattle.secret_counts.proofs.Filling.{secrets_few, total_more, total_all, counts-filled}
+use Rattle.std.proofs.Common.{◌≡◌, ◌-◌, ◌*◌, take}
+use Rattle.word.proofs.Stores.{Storing}
+use Rattle.secret_counts.specs.Recount.{secrets, block_of}
 use Rattle.secret_counts.proofs.fill.Given as goal
 
 -- `secret_counts::fill` meets its contract. The loop's invariant: the counts of the blocks passed are stored, and their sum is the total so far.

@@ -1,4 +1,4 @@
-use Rattle.std.proofs.Common.{◌-◌, ◌%◌, arith, rules}
+use Rattle.std.proofs.Common.{◌-◌, ◌%◌, arith}
 use Rattle.word.proofs.Powers.{pow_bits}
 use Rattle.secret_counts.proofs.LabelWords.{total_inside, block_first, near-moved, next_first, far-moved}
 use Rattle.secret_counts.proofs.move_counts.Goals as goal

@@ -1,4 +1,4 @@
-use Rattle.std.proofs.Common.{◌≡◌, suc, ◌+◌, ◌-◌, ◌*◌, ◌<◌, ◌≤◌, length, take, drop, sym, ap, ◌∙◌, add-one, arith, rules}
+use Rattle.std.proofs.Common.{◌≡◌, suc, ◌+◌, ◌*◌, ◌<◌, ◌≤◌, length, take, drop, sym, ap, ◌∙◌, add-one, arith}
 use Rattle.secret_counts.specs.Recount.{blocks, is_secret, secrets}
 use Rattle.secret_counts.proofs.Filling.{secrets_none, secrets_more, block_all, flag_few}
 use Rattle.secret_counts.proofs.secrets_of.Goals as goal

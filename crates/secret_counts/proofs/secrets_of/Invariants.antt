@@ -1,6 +1,5 @@
-use Rattle.std.proofs.Common.{◌≡◌, suc, ◌+◌, ◌-◌, ◌*◌, ◌<◌, ◌≤◌, length, take, drop, sym, ap, ◌∙◌, add-one, arith, rules}
-use Rattle.secret_counts.specs.Recount.{blocks, is_secret, secrets}
-use Rattle.secret_counts.proofs.Filling.{secrets_none, secrets_more, block_all, flag_few}
+use Rattle.std.proofs.Common.{◌≡◌, ◌+◌, ◌-◌, ◌≤◌, take, drop}
+use Rattle.secret_counts.specs.Recount.{secrets}
 use Rattle.secret_counts.proofs.secrets_of.Given as goal
 
 -- `secret_counts::secrets_of` meets its contract. The loop's invariant: the labels of the block passed are counted.

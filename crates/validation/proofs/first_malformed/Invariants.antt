@@ -1,13 +1,8 @@
 use Prim.Native.Nat.{◌+◌, ◌-◌, ◌≤◌}
 use mathlib.Core.Bool.{false}
-use mathlib.Core.Path.{◌≡◌, refl, sym, ◌∙◌}
-use native.Mathlib.Omega.{arith}
-use borrow.Author.Rules.{rules}
-use Rattle.validation.proofs.Walk.{first_start, first_skip, left_at_end, left_at, any_none, any_grows, at_head, at_shape, at_place, at_range, at_last, fault_of}
-use Rattle.validation.proofs.Walk.{shape_of, varnode_of, same_place, same_range}
+use mathlib.Core.Path.{◌≡◌}
 use Rattle.arithmetic.specs.Opcodes.{most_inputs}
 use Rattle.operation.specs.Layout.{operation_count, opcode_at, varnode_at}
-use Rattle.operation.specs.Decoding.{decoded_at}
 use Rattle.operation.specs.Rules.{breaks_shape_at, breaks_place, breaks_range}
 use Rattle.validation.specs.Verdict.{first_malformed, any_below, lowest_rule}
 use Rattle.validation.proofs.first_malformed.Given as goal

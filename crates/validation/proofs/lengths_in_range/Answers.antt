@@ -1,5 +1,4 @@
 use mathlib.Core.Path.{refl}
-use borrow.Author.Rules.{rules}
 use Rattle.validation.specs.Verdict.{lengths_in_range}
 use Rattle.validation.proofs.lengths_in_range.Goals as goal
 

@@ -1,6 +1,4 @@
 use mathlib.Core.Path.{sym, ◌∙◌}
-use borrow.Author.Rules.{rules}
-use borrow.Author.Tests.{not-true, not-false}
 use Rattle.validation.specs.Verdict.{verdict}
 use Rattle.validation.proofs.verdict.Goals as goal
 

@@ -1,5 +1,4 @@
 use mathlib.Core.Path.{refl}
-use native.Mathlib.Omega.{arith}
 use Rattle.word.specs.Sum.{digit}
 use Rattle.arithmetic.proofs.Table.{no-bit}
 use Rattle.arithmetic.proofs.opcodes.has_bit.Goals as goal

@@ -1,6 +1,5 @@
 use mathlib.Core.Path.{sym, ap, ◌∙◌}
 use native.Mathlib.Omega.{arith}
-use borrow.Author.Rules.{rules}
 use Rattle.arithmetic.specs.Opcodes.{has_place}
 use Rattle.arithmetic.proofs.Table.{with_output, with_input0, with_input1, with_input2, no_place}
 use Rattle.arithmetic.proofs.opcodes.has_place.Goals as goal

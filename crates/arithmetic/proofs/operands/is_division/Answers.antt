@@ -1,4 +1,3 @@
-use borrow.Author.Rules.{rules}
 use Rattle.arithmetic.specs.Operands.{divides}
 use Rattle.arithmetic.proofs.operands.is_division.Goals as goal
 

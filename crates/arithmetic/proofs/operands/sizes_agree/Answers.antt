@@ -1,5 +1,4 @@
 use mathlib.Core.Path.{refl, ◌∙◌}
-use borrow.Author.Rules.{rules}
 use Rattle.integer.proofs.Booleans.{pick_is}
 use Rattle.arithmetic.specs.Opcodes.{sizes_of}
 use Rattle.arithmetic.specs.Operands.{sizes_agree}

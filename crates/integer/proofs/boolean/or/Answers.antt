@@ -1,4 +1,4 @@
-use Rattle.std.proofs.Common.{rules, eq-eqb, ne_eqb}
+use Rattle.std.proofs.Common.{eq-eqb, ne_eqb}
 use Rattle.integer.specs.Operations.{flag, truth, bool_or}
 use Rattle.integer.proofs.boolean.or.Goals as goal
 

@@ -1,4 +1,4 @@
-use Rattle.std.proofs.Common.{rules, eq-eqb, ne_eqb}
+use Rattle.std.proofs.Common.{eq-eqb, ne_eqb}
 use Rattle.integer.proofs.Booleans.{xor_false, xor_true-not}
 use Rattle.integer.specs.Operations.{truth, bool_xor}
 use Rattle.integer.proofs.boolean.xor.Goals as goal

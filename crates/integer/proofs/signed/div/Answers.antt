@@ -1,4 +1,3 @@
-use Rattle.std.proofs.Common.{⊎_elim, rules}
 use Rattle.integer.proofs.Division.{divides, sdiv_is, sdiv_least}
 use Rattle.integer.proofs.signed.div.Goals as goal
 use Rattle.integer.proofs.signed.div.Goals.{then-q+else-p, else-q}

@@ -1,4 +1,3 @@
-use Rattle.std.proofs.Common.{rules}
 use Rattle.integer.proofs.TwosComplement.{written}
 use Rattle.integer.specs.Operations.{int_sext}
 use Rattle.integer.proofs.signed.extend.Goals as goal

@@ -1,4 +1,3 @@
-use Rattle.std.proofs.Common.{rules}
 use Rattle.integer.proofs.TwosComplement.{sign_test}
 use Rattle.integer.proofs.signed.is_negative.Goals as goal
 

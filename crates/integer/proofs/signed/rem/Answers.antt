@@ -1,4 +1,3 @@
-use Rattle.std.proofs.Common.{rules}
 use Rattle.integer.proofs.Division.{divides, srem_is, srem_by_minus_one}
 use Rattle.integer.proofs.signed.rem.Goals as goal
 

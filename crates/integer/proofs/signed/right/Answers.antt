@@ -1,4 +1,4 @@
-use Rattle.std.proofs.Common.{◌^◌, ℤ, sym, ap, ◌∙◌, w64, SFits, rules, le-ltb, lt-ltb}
+use Rattle.std.proofs.Common.{◌^◌, ℤ, sym, ap, ◌∙◌, w64, SFits, le-ltb, lt-ltb}
 use lib.Signed.{shr_z}
 use mir.ValLaws.{to_z-of_z}
 use Rattle.integer.proofs.TwosComplement.{written, shift_fits, sign_test}

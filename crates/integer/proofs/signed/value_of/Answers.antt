@@ -1,5 +1,4 @@
-use Rattle.std.proofs.Common.{rules}
-use Rattle.integer.proofs.TwosComplement.{value_low, value_high, high_fits}
+use Rattle.integer.proofs.TwosComplement.{value_low, value_high}
 use Rattle.integer.proofs.signed.value_of.Goals as goal
 
 pub returns-then-x-top : goal.returns-then-x-top

@@ -1,5 +1,4 @@
-use Rattle.std.proofs.Common.{rules}
-use Rattle.integer.proofs.TwosComplement.{cut_le, flip_fits, flip_cast, wrap_neg, pos_cast, wrap_pos}
+use Rattle.integer.proofs.TwosComplement.{cut_le, wrap_neg, wrap_pos}
 use Rattle.integer.proofs.signed.wrapped.Goals as goal
 
 pub overflow_sub-result : goal.overflow_sub-result

@@ -1,4 +1,4 @@
-use Rattle.std.proofs.Common.{◌∙◌, rules, le-ltb, lt-ltb}
+use Rattle.std.proofs.Common.{◌∙◌, le-ltb, lt-ltb}
 use Rattle.word.proofs.Powers.{low_part_lem}
 use Rattle.integer.specs.Operations.{int_left}
 use Rattle.integer.proofs.unsigned.left.Goals as goal

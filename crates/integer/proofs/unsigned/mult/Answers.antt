@@ -1,4 +1,4 @@
-use Rattle.std.proofs.Common.{◌*◌, ◌∙◌, rules}
+use Rattle.std.proofs.Common.{◌*◌, ◌∙◌}
 use Rattle.word.proofs.Powers.{low_part_lem}
 use Rattle.integer.specs.Operations.{int_mult}
 use Rattle.integer.proofs.unsigned.mult.Goals as goal

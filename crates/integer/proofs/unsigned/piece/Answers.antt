@@ -1,4 +1,4 @@
-use Rattle.std.proofs.Common.{arith, rules}
+use Rattle.std.proofs.Common.{arith}
 use Rattle.word.proofs.Powers.{shifted_bytes}
 use Rattle.integer.specs.Operations.{piece}
 use Rattle.integer.proofs.unsigned.piece.Goals as goal

@@ -1,5 +1,3 @@
-use Rattle.std.proofs.Common.{arith}
-use lib.Count.{ones-le}
 use Rattle.integer.proofs.Bits.{popcount_is}
 use Rattle.integer.proofs.unsigned.popcount.Goals as goal
 

@@ -1,4 +1,4 @@
-use Rattle.std.proofs.Common.{rules, le-ltb, lt-ltb}
+use Rattle.std.proofs.Common.{le-ltb, lt-ltb}
 use Rattle.integer.specs.Operations.{int_right}
 use Rattle.integer.proofs.unsigned.right.Goals as goal
 

@@ -1,4 +1,4 @@
-use Rattle.std.proofs.Common.{◌∙◌, arith, rules}
+use Rattle.std.proofs.Common.{◌∙◌, arith}
 use Rattle.integer.proofs.Whole.{sub_is}
 use Rattle.integer.proofs.unsigned.sub.Goals as goal
 

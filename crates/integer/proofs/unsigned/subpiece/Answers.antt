@@ -1,4 +1,4 @@
-use Rattle.std.proofs.Common.{sym, ◌∙◌, rules}
+use Rattle.std.proofs.Common.{sym, ◌∙◌}
 use Rattle.integer.proofs.Whole.{dropped_all}
 use Rattle.integer.specs.Operations.{subpiece}
 use Rattle.word.proofs.Powers.{pow_bits}

@@ -1,5 +1,5 @@
-use Rattle.std.proofs.Common.{◌/◌, ◌%◌, ◌^◌, ◌<◌, ◌∙◌, arith, rules}
-use Rattle.integer.proofs.Whole.{product_fits, product_low, halves, cross_low}
+use Rattle.std.proofs.Common.{◌∙◌}
+use Rattle.integer.proofs.Whole.{product_low, halves, cross_low}
 use Rattle.integer.proofs.unsigned.wrapping_mul.Goals as goal
 
 pub returns : goal.returns

@@ -1,6 +1,5 @@
 use mathlib.Core.Path.{◌∙◌}
 use borrow.Author.Tests.{eq-eqb, ne_eqb}
-use borrow.Author.Rules.{rules}
 use Rattle.operation.proofs.Decoding.{shape_broken}
 use Rattle.operation.proofs.decode.breaks_shape.Goals as goal
 

@@ -1,5 +1,4 @@
 use mathlib.Core.Path.{refl, sym, ap, ◌∙◌}
-use borrow.Author.Rules.{rules}
 use Rattle.operation.specs.declared.decode.Decoded.TheVariants.{Accepted}
 use Rattle.operation.specs.Decoding.{decoded}
 use Rattle.operation.proofs.Decoding.{numbered}

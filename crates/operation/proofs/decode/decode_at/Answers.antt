@@ -1,6 +1,5 @@
 use Prim.Native.Nat.{ℕ}
 use mathlib.Core.Path.{◌∙◌, ap}
-use borrow.Author.Rules.{rules}
 use Rattle.operation.specs.Layout.{descriptor_at, offset_at}
 use Rattle.arithmetic.specs.Opcodes.{has_place}
 use Rattle.operation.specs.Decoding.{decoded_at}

@@ -1,5 +1,4 @@
 use mathlib.Core.Path.{refl}
-use borrow.Author.Rules.{rules}
 use Rattle.operation.specs.Rules.{describes_varnode}
 use Rattle.operation.proofs.decode.describes_varnode.Goals as goal
 

@@ -1,4 +1,3 @@
-use borrow.Author.Rules.{rules}
 use Rattle.word.proofs.Powers.{pow_bits}
 use Rattle.word.specs.Sum.{digit}
 use Rattle.operation.proofs.layout.byte.Goals as goal

@@ -1,6 +1,5 @@
 use Prim.Native.Nat.{ℕ}
 use mathlib.Core.Path.{ap, ◌∙◌}
-use borrow.Author.Rules.{rules}
 use Rattle.operation.specs.Layout.{head_byte}
 use Rattle.word.specs.Sum.{digit}
 use Rattle.operation.proofs.layout.head_byte.Goals as goal

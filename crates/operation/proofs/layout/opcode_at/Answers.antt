@@ -1,4 +1,3 @@
-use borrow.Author.Rules.{rules}
 use Rattle.operation.specs.Layout.{opcode_at}
 use Rattle.operation.proofs.layout.opcode_at.Goals as goal
 

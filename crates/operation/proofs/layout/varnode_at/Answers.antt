@@ -1,5 +1,4 @@
 use mathlib.Core.Path.{ap₂, ◌∙◌}
-use borrow.Author.Rules.{rules}
 use Rattle.operation.specs.Layout.{descriptor_at, offset_at, described_by, varnode_at}
 use Rattle.operation.proofs.layout.varnode_at.Goals as goal
 

@@ -1,5 +1,4 @@
 use mathlib.Core.Path.{refl}
-use borrow.Author.Rules.{rules}
 use Rattle.operation.specs.Layout.{word_at}
 use Rattle.operation.proofs.layout.word_at.Goals as goal
 

@@ -1,4 +1,3 @@
-use borrow.Author.Rules.{rules}
 use Rattle.operation.specs.Layout.{wordsize_of}
 use Rattle.operation.proofs.layout.wordsize_of.Goals as goal
 

@@ -1,5 +1,4 @@
 use mathlib.Core.Path.{refl}
-use borrow.Author.Rules.{rules}
 use Rattle.operation.specs.Rules.{breaks_head}
 use Rattle.operation.proofs.rules.breaks_head.Goals as goal
 

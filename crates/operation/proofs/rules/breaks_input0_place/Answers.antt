@@ -1,5 +1,4 @@
 use mathlib.Core.Path.{refl, sym, ◌∙◌}
-use borrow.Author.Rules.{rules}
 use Rattle.operation.specs.Rules.{breaks_place}
 use Rattle.operation.proofs.rules.breaks_input0_place.Goals as goal
 

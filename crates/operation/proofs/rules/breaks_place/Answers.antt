@@ -1,6 +1,5 @@
-use mathlib.Core.Path.{refl, ◌∙◌}
+use mathlib.Core.Path.{refl}
 use borrow.Author.Tests.{ne_eqb}
-use borrow.Author.Rules.{rules}
 use Rattle.operation.specs.Rules.{breaks_place}
 use Rattle.operation.proofs.rules.breaks_place.Goals as goal
 

@@ -1,5 +1,4 @@
 use mathlib.Core.Path.{refl, sym, ◌∙◌}
-use borrow.Author.Rules.{rules}
 use Rattle.operation.specs.Rules.{breaks_range}
 use Rattle.operation.proofs.rules.breaks_range.Goals as goal
 

@@ -1,6 +1,5 @@
 use mathlib.Core.Bool.{not}
 use mathlib.Core.Path.{ap}
-use borrow.Author.Rules.{rules}
 use Rattle.operation.specs.Rules.{breaks_size}
 use Rattle.operation.proofs.rules.breaks_size.Goals as goal
 

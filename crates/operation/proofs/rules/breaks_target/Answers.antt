@@ -1,5 +1,4 @@
 use mathlib.Core.Path.{refl, sym, ◌∙◌}
-use borrow.Author.Rules.{rules}
 use Rattle.operation.specs.Rules.{breaks_target}
 use Rattle.operation.proofs.rules.breaks_target.Goals as goal
 

@@ -1,4 +1,3 @@
-use borrow.Author.Rules.{rules}
 use Rattle.operation.specs.Rules.{is_destination}
 use Rattle.operation.proofs.rules.is_destination.Goals as goal
 

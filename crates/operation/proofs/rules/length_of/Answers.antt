@@ -1,4 +1,3 @@
-use borrow.Author.Rules.{rules}
 use Rattle.operation.specs.Rules.{length_of}
 use Rattle.operation.proofs.rules.length_of.Goals as goal
 

@@ -1,5 +1,4 @@
 use mathlib.Core.Path.{refl}
-use borrow.Author.Rules.{rules}
 use Rattle.operation.specs.Rules.{names_space}
 use Rattle.operation.proofs.rules.names_space.Goals as goal
 

@@ -1,4 +1,3 @@
-use borrow.Author.Rules.{rules}
 use Rattle.operation.proofs.Targets.{forward, backward}
 use Rattle.operation.proofs.rules.target_outside.Goals as goal
 

@@ -1,13 +1,6 @@
-use Prim.Native.Nat.{ℕ, ◌+◌, ◌-◌, ◌*◌, ◌%◌, ◌^◌, ◌≤◌, ◌<◌}
-use mathlib.Core.Path.{◌≡◌, sym, ap, ap₂, ◌∙◌}
-use native.Mathlib.Numerals.{add-one}
-use native.Mathlib.Omega.{arith}
-use borrow.Author.Rules.{rules}
-use lib.Bits.{bit_or}
-use lib.ListN.{get_or}
-use Rattle.word.specs.Word.{significance}
-use Rattle.word.proofs.Powers.{shifted_bytes}
-use Rattle.word.proofs.Laws.{byte_fits, gathered, gathered_none, gathered-or, gathered_all}
+use Prim.Native.Nat.{◌-◌, ◌≤◌}
+use mathlib.Core.Path.{◌≡◌}
+use Rattle.word.proofs.Laws.{gathered}
 use Rattle.word.proofs.bytes.gather_walk.Given as goal
 
 -- `word::bytes::gather_walk` meets its contract. The loop's invariant: the value so far is the sum of the bytes passed, by their weights.

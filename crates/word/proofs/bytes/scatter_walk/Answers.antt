@@ -1,11 +1,7 @@
-use Prim.Native.Nat.{◌-◌}
 use mathlib.Core.Path.{◌∙◌}
-use native.Mathlib.Omega.{arith}
-use borrow.Author.Rules.{rules}
-use Rattle.word.specs.Sum.{digit}
-use Rattle.word.specs.Word.{significance, bytes_of}
+use Rattle.word.specs.Word.{bytes_of}
 use Rattle.word.proofs.Laws.{bytes_at_lem, scattered}
-use Rattle.word.proofs.Stores.{Storing, storing_none, storing_more, storing_all, storing-length}
+use Rattle.word.proofs.Stores.{storing_none, storing_more, storing_all}
 use Rattle.word.proofs.bytes.scatter_walk.Goals as goal
 
 pub loop-i-init : goal.loop-i-init

@@ -1,4 +1,3 @@
-use borrow.Author.Rules.{rules}
 use Rattle.word.proofs.Powers.{largest_is}
 use Rattle.word.proofs.size.largest.Goals as goal
 

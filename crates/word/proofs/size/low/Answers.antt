@@ -1,8 +1,3 @@
-use Prim.Native.Nat.{◌^◌}
-use mathlib.Core.Path.{◌≡◌, sym}
-use native.Mathlib.Nat.{mod-eq_of_lt}
-use native.Mathlib.Omega.{arith}
-use borrow.Author.Rules.{rules}
 use Rattle.word.proofs.Powers.{size_pos}
 use Rattle.word.proofs.size.low.Goals as goal
 

@@ -2,7 +2,6 @@ use Prim.Native.Nat.{◌*◌, ◌^◌, ◌<◌}
 use mathlib.Core.Path.{◌∙◌}
 use native.Mathlib.Nat.{one-mul, lt_of_le_of_lt}
 use native.Mathlib.Omega.{arith}
-use borrow.Author.Rules.{rules}
 use lib.Dec.{lit<}
 use Rattle.word.proofs.Powers.{shifted_bytes, size_mono}
 use Rattle.word.proofs.size.modulus.Goals as goal
