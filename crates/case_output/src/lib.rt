@@ -1,4 +1,6 @@
 // The end of a text: what is printed of all that was read.
+#![tactic(auto)]
+
 ghost use Rattle.std.specs.Prelude.{◌≡◌, ℕ, ◌≤◌, List, length};
 ghost use Rattle.case_reader.specs.Buffers.{Sound};
 ghost use Rattle.case_reader.specs.Stream.{ReaderFits, HasRead};

@@ -1,5 +1,6 @@
 // The labelled run of a case, and what is printed of it.
 #![tactic(auto)]
+
 ghost use Rattle.std.specs.Prelude.{◌≤◌, length, replicate};
 ghost use Rattle.machine.specs.Memory.{spaces, lengths_of};
 ghost use Rattle.machine.specs.Calls.{labelled_run};

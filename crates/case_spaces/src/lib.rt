@@ -1,5 +1,6 @@
 // The run of a case that lies in the reader's buffers.
 #![tactic(auto)]
+
 ghost use Rattle.std.specs.Prelude.{◌≡◌, ◌+◌, ◌≤◌, length, take, drop};
 ghost use Rattle.machine.specs.Memory.{spaces, lengths_of};
 ghost use Rattle.case_reader.specs.Limits.{most_case_bytes, spaces_room};

@@ -1,9 +1,9 @@
-use Prim.Native.Nat.{◌+◌, ◌-◌}
+use Prim.Native.Nat.{◌+◌}
 use mathlib.Core.Path.{◌≡◌, refl, ◌∙◌}
 use native.Mathlib.Omega.{arith}
 use lib.ListN.{length, get_or}
 use Rattle.word.proofs.Sums.{tabulate-length}
-use Rattle.word.proofs.Stores.{Storing, storing_none, storing_more, storing_all, storing-length, filled, entries}
+use Rattle.word.proofs.Stores.{storing_none, storing_more, storing_all, storing-length, filled, entries}
 use Rattle.case_spaces.proofs.copy.Goals as goal
 
 pub loop-i-init : goal.loop-i-init

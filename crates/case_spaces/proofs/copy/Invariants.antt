@@ -1,9 +1,6 @@
 use Prim.Native.Nat.{◌+◌, ◌-◌}
-use mathlib.Core.Path.{◌≡◌, refl, ◌∙◌}
-use native.Mathlib.Omega.{arith}
 use lib.ListN.{length, get_or}
-use Rattle.word.proofs.Sums.{tabulate-length}
-use Rattle.word.proofs.Stores.{Storing, storing_none, storing_more, storing_all, storing-length, filled, entries}
+use Rattle.word.proofs.Stores.{Storing}
 use Rattle.case_spaces.proofs.copy.Given as goal
 
 -- `case_spaces::copy` meets its contract. The loop's invariant: the bytes passed are copied, and nothing else (`Storing`).
