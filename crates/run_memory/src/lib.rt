@@ -1,5 +1,6 @@
 // Varnodes over the three lent spaces, and over their labels.
 #![tactic(auto)]
+
 pub mod labels;
 pub mod space;
 pub mod varnode;

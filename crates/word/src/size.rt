@@ -37,6 +37,7 @@ pub fn holds(size: u64, x: u64) -> bool
 }
 
 // A size of 1 to 8 bytes.
+#[tactic(auto, unfolding(crate::specs::Word::is_size))]
 pub fn is_size(size: u64) -> bool
     ensures { result ≡ is_size size }
 {

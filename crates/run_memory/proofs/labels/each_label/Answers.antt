@@ -1,4 +1,3 @@
-use native.Mathlib.Omega.{arith}
 use Rattle.run_memory.proofs.Secrets.{same_labels}
 use Rattle.run_memory.proofs.labels.each_label.Goals as goal
 

@@ -1,5 +1,4 @@
 use mathlib.Core.Path.{◌∙◌}
-use borrow.Author.Rules.{rules}
 use Rattle.machine.proofs.Conditions.{has-secret}
 use Rattle.run_memory.proofs.Secrets.{number-secret}
 use Rattle.run_memory.proofs.labels.has_secret.Goals as goal

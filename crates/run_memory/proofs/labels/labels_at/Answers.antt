@@ -1,5 +1,5 @@
 use mathlib.Core.Path.{sym, ◌∙◌}
-use Rattle.run_memory.proofs.Spaces.{may_gather, labels_gathered}
+use Rattle.run_memory.proofs.Spaces.{labels_gathered}
 use Rattle.run_memory.proofs.Secrets.{constant_labels}
 use Rattle.run_memory.proofs.labels.labels_at.Goals as goal
 

@@ -1,9 +1,6 @@
-use native.Mathlib.Omega.{arith}
-use borrow.Author.Rules.{rules}
-use borrow.Author.Tests.{not-true, not-false}
-use mathlib.Core.Path.{refl, sym}
+use mathlib.Core.Path.{refl}
 use Rattle.word.specs.Word.{significance}
-use Rattle.run_memory.proofs.Secrets.{still_eight, turned_digits, turned_below}
+use Rattle.run_memory.proofs.Secrets.{turned_digits, turned_below}
 use Rattle.run_memory.proofs.labels.ordered.Goals as goal
 
 -- `run_memory::labels::ordered` meets its contract.

@@ -1,4 +1,3 @@
-use borrow.Author.Rules.{rules}
 use Rattle.run_memory.proofs.Relabelling.{old_fits, relabelled}
 use Rattle.run_memory.proofs.labels.relabel.Goals as goal
 

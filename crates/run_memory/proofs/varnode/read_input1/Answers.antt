@@ -3,7 +3,7 @@ use mathlib.Core.Bool.{true, false}
 use native.Mathlib.Omega.{arith}
 use borrow.Author.Tests.{eq-eqb, ne_eqb}
 use Rattle.machine.specs.Program.{big_endian}
-use Rattle.run_memory.proofs.Spaces.{may_gather, value_gathered, value_elsewhere}
+use Rattle.run_memory.proofs.Spaces.{value_gathered, value_elsewhere}
 use Rattle.run_memory.proofs.varnode.read_input1.Goals as goal
 
 -- `run_memory::varnode::read_input1` meets its contract.

@@ -1,6 +1,6 @@
 use mathlib.Core.Path.{sym, ◌∙◌}
 use native.Mathlib.Omega.{arith}
-use Rattle.run_memory.proofs.Spaces.{may_gather, number_gathered, number_elsewhere}
+use Rattle.run_memory.proofs.Spaces.{number_gathered, number_elsewhere}
 use Rattle.run_memory.proofs.varnode.value_at.Goals as goal
 
 -- `run_memory::varnode::value_at` meets its contract.

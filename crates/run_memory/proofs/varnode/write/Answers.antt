@@ -1,5 +1,4 @@
 use mathlib.Core.Path.{sym}
-use borrow.Author.Rules.{rules}
 use lib.Dec.{lit≤}
 use Rattle.machine.specs.Program.{big_endian}
 use Rattle.machine.specs.Memory.{space_of, with_space}
