@@ -1,5 +1,6 @@
 // The case program: reads a case from standard input and prints what its labelled run leaves.
 #![tactic(auto)]
+
 ghost use Rattle.std.specs.Prelude.{IfSome};
 ghost use Rattle.case_reader.specs.Stream.{Lent};
 ghost use Rattle.case.specs.Read.{Read, ReadWhole};
@@ -17,8 +18,7 @@ struct Got {
 
 fn main(rt: HostRuntime) {
     if has_argument(&rt) {
-        let _ = eprint!(
-            rt;
+        let _ = eprint!(rt;
             "case: it takes no argument, and nothing was run\nusage: case <FILE\nIts exit status is always 0: a script uses run-case.\nWhat it prints holds the secret bytes in clear.\n"
         );
         return;
@@ -27,7 +27,13 @@ fn main(rt: HostRuntime) {
     let mut memory = buffers::spaces();
     let mut labels = buffers::spaces();
     let mut words = buffers::words();
-    let got = read_all(&mut rt.stdin(), &mut line, &mut memory, &mut labels, &mut words);
+    let got = read_all(
+        &mut rt.stdin(),
+        &mut line,
+        &mut memory,
+        &mut labels,
+        &mut words,
+    );
     if got.failed {
         let _ = eprint!(rt; "case: standard input cannot be read; nothing was printed\n");
         return;
@@ -36,8 +42,7 @@ fn main(rt: HostRuntime) {
     let mut out = case_output::room();
     let n = case_output::finish(reader, &memory, &labels, &words, &mut out);
     if rt.stdout().write_all(&out[..n]).is_err() {
-        let _ = eprint!(
-            rt;
+        let _ = eprint!(rt;
             "case: standard output cannot be written; what was printed is not complete\n"
         );
     }
@@ -66,7 +71,10 @@ fn read_all<R: Read>(
     let mut reader = start();
     for _ in 0..u64::MAX {
         let Ok(n) = from.read(&mut part) else {
-            return Got { failed: true, reader };
+            return Got {
+                failed: true,
+                reader,
+            };
         };
         if n == 0 {
             return Got {
@@ -76,5 +84,8 @@ fn read_all<R: Read>(
         }
         reader = read(reader, &part[..n], line, memory, labels, words);
     }
-    Got { failed: true, reader }
+    Got {
+        failed: true,
+        reader,
+    }
 }
