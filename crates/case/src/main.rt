@@ -48,10 +48,11 @@ fn main(rt: HostRuntime) {
     }
 }
 
-// Whether the program was given an argument. Argument 0 is its name; a longer one than the buffer is one too.
-fn has_argument(env: &impl Env) -> bool {
+// Whether the program was given an argument. Argument 0 is its name; one that is longer than the buffer is one too. It
+// takes the runtime itself: over any `Env` it would rest on contracts of C functions that it does not call.
+fn has_argument(rt: &HostRuntime) -> bool {
     let mut text = [0u8; 1];
-    !matches!(env.arg(1, &mut text), Err(FillError::NotPresent))
+    !matches!(rt.arg(1, &mut text), Err(FillError::NotPresent))
 }
 
 // Reads a stream to its end, or to a read that fails. Where its bytes are known, they are the text that was read. The
