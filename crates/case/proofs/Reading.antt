@@ -1,11 +1,10 @@
 -- The text read so far, part by part.
-use Rattle.std.proofs.Common.{ℕ, ◌≡◌, ◌≤◌, false, List, [], ◌++◌, length, take, refl, sym, ap, ◌∙◌, append_assoc, append-nil, arith, Option, None, Some, IfSome}
+use Rattle.std.proofs.Common.{ℕ, ◌≡◌, ◌≤◌, false, List, [], ◌++◌, length, refl, ap, ◌∙◌, append_assoc, append-nil, arith, Option, None, Some, IfSome}
 use Rattle.std.specs.Io.KnownBytes.{Consumes, IsAtEnd}
 use Rattle.case_printing.specs.Appended.{Appended}
-use Rattle.case_reader.specs.Stream.{Lent, Started, Advanced, ReaderFits, HasRead}
+use Rattle.case_reader.specs.Stream.{Lent, Started, Advanced}
 use Rattle.case_reader.specs.declared.stream.Reader.{Reader}
 use Rattle.case.specs.Read.{Read, ReadWhole}
-use Rattle.case.specs.declared.Got.{Got}
 
 -- What was read of a stream, whose bytes may be known.
 pub record ReadOf (before after : Option (List ℕ)) (r : Reader) (line memory labels words : List ℕ) : Type 0 where

@@ -1,5 +1,6 @@
 // The case program: reads a case from standard input and prints what its labelled run leaves.
 #![tactic(auto)]
+
 ghost use Rattle.std.specs.Prelude.{IfSome};
 ghost use Rattle.case_reader.specs.Stream.{Lent};
 ghost use Rattle.case.specs.Read.{Read, ReadWhole};
@@ -17,8 +18,7 @@ struct Got {
 
 fn main(rt: HostRuntime) {
     if has_argument(&rt) {
-        let _ = eprint!(
-            rt;
+        let _ = eprint!(rt;
             "case: it takes no argument, and nothing was run\nusage: case <FILE\nIts exit status is always 0: a script uses run-case.\nWhat it prints holds the secret bytes in clear.\n"
         );
         return;
@@ -27,7 +27,13 @@ fn main(rt: HostRuntime) {
     let mut memory = buffers::spaces();
     let mut labels = buffers::spaces();
     let mut words = buffers::words();
-    let got = read_all(&mut rt.stdin(), &mut line, &mut memory, &mut labels, &mut words);
+    let got = read_all(
+        &mut rt.stdin(),
+        &mut line,
+        &mut memory,
+        &mut labels,
+        &mut words,
+    );
     if got.failed {
         let _ = eprint!(rt; "case: standard input cannot be read; nothing was printed\n");
         return;
@@ -36,17 +42,17 @@ fn main(rt: HostRuntime) {
     let mut out = case_output::room();
     let n = case_output::finish(reader, &memory, &labels, &words, &mut out);
     if rt.stdout().write_all(&out[..n]).is_err() {
-        let _ = eprint!(
-            rt;
+        let _ = eprint!(rt;
             "case: standard output cannot be written; what was printed is not complete\n"
         );
     }
 }
 
-// Whether the program was given an argument. Argument 0 is its name; a longer one than the buffer is one too.
-fn has_argument(env: &impl Env) -> bool {
+// Whether the program was given an argument. Argument 0 is its name; one that is longer than the buffer is one too. It
+// takes the runtime itself: over any `Env` it would rest on contracts of C functions that it does not call.
+fn has_argument(rt: &HostRuntime) -> bool {
     let mut text = [0u8; 1];
-    !matches!(env.arg(1, &mut text), Err(FillError::NotPresent))
+    !matches!(rt.arg(1, &mut text), Err(FillError::NotPresent))
 }
 
 // Reads a stream to its end, or to a read that fails. Where its bytes are known, they are the text that was read. The
@@ -66,7 +72,10 @@ fn read_all<R: Read>(
     let mut reader = start();
     for _ in 0..u64::MAX {
         let Ok(n) = from.read(&mut part) else {
-            return Got { failed: true, reader };
+            return Got {
+                failed: true,
+                reader,
+            };
         };
         if n == 0 {
             return Got {
@@ -76,5 +85,8 @@ fn read_all<R: Read>(
         }
         reader = read(reader, &part[..n], line, memory, labels, words);
     }
-    Got { failed: true, reader }
+    Got {
+        failed: true,
+        reader,
+    }
 }
