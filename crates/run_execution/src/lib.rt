@@ -1,5 +1,6 @@
 // The plain loop: plan, then apply.
 #![tactic(auto)]
+
 ghost use Rattle.std.specs.Prelude.{◌≡◌, true, cond, ◌+◌, ◌≤◌, ◌<◌, length, set};
 ghost use Rattle.operation.specs.Layout.{operation_count};
 ghost use Rattle.validation.specs.Verdict.{most_operations, most_bytes, settings_in_range};

@@ -1,6 +1,7 @@
 // The journal of a window: what the target of each operation held before it, and the undoing. An entry has four words: the target's
 // descriptor (space * 16 + size) and offset, and the numbers that its bytes and its labels make in little order.
 #![tactic(auto)]
+
 ghost use Rattle.std.specs.Prelude.{◌≡◌, true, cond, ◌+◌, ◌*◌, ◌≤◌, ◌<◌, eqb, length};
 ghost use Rattle.std.proofs.lemmas.List.Edits.{sets};
 ghost use Rattle.secret_counts.specs.Moved.{low_bit};

@@ -1,6 +1,7 @@
 // Both runs. A turn looks for LEAK, runs operations by the plain loop, and marks what was written. A labelled run gives each turn one
 // operation; a plain run is one turn with the whole budget. The plain loop and the turn have one caller each, so that the compiler inlines them.
 #![tactic(auto)]
+
 ghost use Rattle.std.specs.Prelude.{◌≡◌, true, cond, not, ◌&&◌, ◌+◌, ◌*◌, ◌≤◌, ◌<◌, eqb, ltb, length};
 ghost use Rattle.secret_counts.specs.Moved.{low_bit};
 ghost use Rattle.operation.specs.Layout.{words_per_operation, operation_count, opcode_at};

@@ -13,7 +13,7 @@ use Rattle.operation.specs.Rules.{accesses, branches, names_space, breaks_place,
 use Rattle.arithmetic.proofs.Table.{data_shape}
 use Rattle.validation.specs.Verdict.{most_operations, wordsizes_in_range, settings_in_range}
 use Rattle.validation.specs.WellFormed.{WellFormed}
-use Rattle.machine.specs.Memory.{Memory, OfBytes, spaces, lengths_of, space_of, value_at}
+use Rattle.machine.specs.Memory.{Memory, OfBytes, lengths_of, space_of, value_at}
 use Rattle.machine.specs.Effect.{operation_at}
 use Rattle.machine.specs.Conditions.{Words}
 use Rattle.machine.proofs.Conditions.{Destination, Formed, formed, names_bytes, each_space}

@@ -1,5 +1,6 @@
 // What an operation is to do, from shared slices and numbers alone: opcode dispatch, BOUNDS and ZERO.
 #![tactic(auto)]
+
 ghost use Rattle.std.specs.Prelude.{◌≡◌, ◌+◌, ◌*◌, ◌<◌, ◌≤◌, true, length, if◌then◌else◌, ◌==◌, nat_lt};
 ghost use Rattle.operation.specs.Layout.{wordsize_of, words_per_operation, operation_count};
 ghost use Rattle.operation.specs.Rules.{accesses, branches};

@@ -1,5 +1,6 @@
 // What is refused before anything runs.
 #![tactic(auto)]
+
 ghost use Rattle.std.specs.Prelude.{◌≡◌, true, cond, not, ◌&&◌, [], max};
 ghost use Rattle.validation.specs.Verdict.{settings_in_range, lengths_in_range, refusal_report};
 ghost use Rattle.machine.specs.Memory.{spaces, lengths_of};

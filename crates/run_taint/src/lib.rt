@@ -1,5 +1,6 @@
 // What an operation must find public, and the labels that it writes.
 #![tactic(auto)]
+
 ghost use Rattle.std.specs.Prelude.{◌≡◌, cond, ℕ, ◌+◌, ◌*◌, ◌-◌, ◌^◌, ◌≤◌, ◌<◌, ltb, length};
 ghost use Rattle.word.specs.Sum.{digit};
 ghost use Rattle.arithmetic.specs.Opcodes.{first_integer, member};

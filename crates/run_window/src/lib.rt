@@ -1,5 +1,6 @@
 // A window: the way not taken, run and undone.
 #![tactic(auto)]
+
 ghost use Rattle.std.specs.Prelude.{◌≡◌, true, ℕ, ◌+◌, ◌-◌, ◌≤◌, ◌<◌, length, get_or};
 ghost use Rattle.secret_counts.specs.Moved.{low_bit};
 ghost use Rattle.operation.specs.Layout.{operation_count};

@@ -17,7 +17,7 @@ use Rattle.machine.specs.Memory.{Memory, lengths_of, written}
 use Rattle.machine.specs.Effect.{Operation, Kind, operation_at, target}
 use Rattle.machine.specs.Run.{Stop, Decision, Position, Ended, Stepped, log_word, logging, go_to, access, checked, decided, advanced, ended, apply_decision, execute_as, execute}
 use Rattle.machine.specs.Run.{stepped, continued, run}
-use Rattle.machine.specs.Calls.{Outcome, refusal, log_after, outcome_of, starting, called}
+use Rattle.machine.specs.Calls.{Outcome, same_lengths, labels_in_range, refusal, log_after, outcome_of, starting, called, labelled_run}
 use Rattle.machine.proofs.Cases.{either}
 use Rattle.machine.proofs.Ranges.{in_range, space_small}
 use Rattle.machine.proofs.Kept.{written_lengths}
@@ -154,3 +154,10 @@ called_below settings list start budget log labels m fitting valid k = by (eqb r
         let w = run_below (program_of settings list) budget (starting start (length log)) labels m l none in
         rw (get_or-append r.position.log (drop (length r.position.log) log) 0 k h) (below_at w k h)
     by false t h = absurd (omega (arith, h, (refusal_report_lem (refusal_refuses settings (lengths_of m) list start fitting valid)).1))
+
+pub labelled_below : (settings : Settings) (list : List ℕ) (start budget : ℕ) (log : List ℕ) (labels m : Memory) (k : ℕ)
+    → k < (labelled_run settings list start budget log labels m).report.logged
+    → get_or (labelled_run settings list start budget log labels m).log k 0 < window_mark
+unfolding labelled_run
+labelled_below settings list start budget log labels m =
+    called_below settings list start budget log labels m (same_lengths (lengths_of labels) (lengths_of m)) (labels_in_range labels)

@@ -19,7 +19,7 @@ use Rattle.speculation.specs.Window.{window_mark, marked}
 use Rattle.speculation.specs.Speculation.{most_ahead, journal_words, speculative_refusal, Speculation, speculation, speculate, journal_after, called_ahead, speculative_run}
 use Rattle.speculation.specs.Labelled.{unmarked, MarkedAside, AsFar, AgainstLabelled}
 use Rattle.speculation.proofs.Accepted.{ahead-refusal}
-use Rattle.speculation.proofs.Below.{Below, none, more, run_below, called_below}
+use Rattle.speculation.proofs.Below.{Below, none, more, run_below, labelled_below}
 use Rattle.speculation.proofs.NoWindow.{no_window}
 use Rattle.speculation.proofs.Aside.{Aside, placed, at_parts, Equal, speculate_equal}
 use Rattle.speculation.proofs.AsFar.{Reaches, speculate_far}
@@ -139,8 +139,6 @@ against-labelled = record {
       call_aside settings list start budget window log journal labels m (same_lengths (lengths_of labels) (lengths_of m)) (labels_in_range labels) w j (not_short n34 n35);
   as_far = λ settings list start budget window log journal labels m.
       call_far settings list start budget window log journal labels m (same_lengths (lengths_of labels) (lengths_of m)) (labels_in_range labels);
-  below = λ settings list start budget log labels m.
-      called_below settings list start budget log labels m (same_lengths (lengths_of labels) (lengths_of m)) (labels_in_range labels);
-  no_window = λ settings list start budget log journal labels m.
-      no_window settings list start budget log journal labels m (same_lengths (lengths_of labels) (lengths_of m)) (labels_in_range labels);
+  below = labelled_below;
+  no_window = no_window;
 }

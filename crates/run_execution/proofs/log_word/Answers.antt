@@ -1,6 +1,5 @@
 use Rattle.machine.specs.Run.{log_word}
 use mathlib.Core.Path.{refl}
-use borrow.Author.Rules.{rules}
 use Rattle.run_execution.proofs.log_word.Goals as goal
 
 -- `run_execution::log_word` meets its contract.

@@ -1,24 +1,16 @@
-use Prim.Native.Nat.{◌-◌}
-use native.Mathlib.Omega.{arith}
-use mathlib.Core.Path.{◌≡◌, sym, ap, ◌∙◌}
-use Rattle.operation.specs.declared.layout.Lengths.{Lengths}
-use Rattle.operation.specs.Layout.{operation_count}
-use Rattle.machine.specs.Program.{program_of}
-use Rattle.machine.specs.Memory.{spaces, lengths_of}
+use mathlib.Core.Path.{sym, ◌∙◌}
 use Rattle.run_memory.proofs.Spaces.{of_bytes}
-use Rattle.run_execution.proofs.Running.{Going, begun, at_end, at_budget, may_plan, at_stop, at_full, may_log, may_push, may_write, logs_kept, at_exit, at_next}
-use borrow.Author.Rules.{rules}
+use Rattle.run_execution.proofs.Running.{begun, at_end, at_budget, at_stop, at_full, may_log, may_write, at_exit, at_next}
 use Rattle.run_execution.proofs.run_from.Goals as goal
 
 -- ---- the needs
 pub loop-i-init : goal.loop-i-init
-loop-i-init c =
-    (
-      c.operation_count-count.ensures,
-      begun _ _ _ _ _ _ c.requires.3 (λ j. (c.type_inv.list j).fits) c.requires.0 c.requires.1
-          (of_bytes _ _ _ (λ j. (c.type_inv.unique j).fits) (λ j. (c.type_inv.register j).fits)
-          (λ j. (c.type_inv.ram j).fits)) c.requires.2,
-    )
+loop-i-init c = (
+  c.operation_count-count.ensures,
+  begun _ _ _ _ _ _ c.requires.3 (λ j. (c.type_inv.list j).fits) c.requires.0 c.requires.1
+      (of_bytes _ _ _ (λ j. (c.type_inv.unique j).fits) (λ j. (c.type_inv.register j).fits)
+      (λ j. (c.type_inv.ram j).fits)) c.requires.2,
+)
 
 pub returns-then-i-count : goal.returns-then-i-count
 returns-then-i-count c =
@@ -59,13 +51,12 @@ write-requires c =
     c.if-executed-budget.false _ c.plan_at-p.ensures
 
 pub loop-i-preserved : goal.loop-i-preserved
-loop-i-preserved c =
-    (
-      c.loop-i.invariant.0,
-      at_next _ _ _ _ _ _ _ _ _ _ _ c.loop-i.invariant.1 (λ e. c.if-i-count.false (e ∙ sym c.loop-i.invariant.0))
-          c.if-executed-budget.false _ c.plan_at-p.ensures
-          c.if-p-gt1.false _ c.both.ensures
-          c.if-both.false _ _ _ c.log_word.ensures c.push-k.ensures.0 c.push-k.ensures.1
-          c.if-p-eq1.false _ c.write.ensures
-          (of_bytes _ _ _ (λ j. (c.type_inv.unique j).fits) (λ j. (c.type_inv.register j).fits) (λ j. (c.type_inv.ram j).fits)),
-    )
+loop-i-preserved c = (
+  c.loop-i.invariant.0,
+  at_next _ _ _ _ _ _ _ _ _ _ _ c.loop-i.invariant.1 (λ e. c.if-i-count.false (e ∙ sym c.loop-i.invariant.0))
+      c.if-executed-budget.false _ c.plan_at-p.ensures
+      c.if-p-gt1.false _ c.both.ensures
+      c.if-both.false _ _ _ c.log_word.ensures c.push-k.ensures.0 c.push-k.ensures.1
+      c.if-p-eq1.false _ c.write.ensures
+      (of_bytes _ _ _ (λ j. (c.type_inv.unique j).fits) (λ j. (c.type_inv.register j).fits) (λ j. (c.type_inv.ram j).fits)),
+)

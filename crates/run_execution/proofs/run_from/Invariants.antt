@@ -1,13 +1,9 @@
 use Prim.Native.Nat.{◌-◌}
-use native.Mathlib.Omega.{arith}
-use mathlib.Core.Path.{◌≡◌, sym, ap, ◌∙◌}
-use Rattle.operation.specs.declared.layout.Lengths.{Lengths}
+use mathlib.Core.Path.{◌≡◌}
 use Rattle.operation.specs.Layout.{operation_count}
 use Rattle.machine.specs.Program.{program_of}
-use Rattle.machine.specs.Memory.{spaces, lengths_of}
-use Rattle.run_memory.proofs.Spaces.{of_bytes}
-use Rattle.run_execution.proofs.Running.{Going, begun, at_end, at_budget, may_plan, at_stop, at_full, may_log, may_push, may_write, logs_kept, at_exit, at_next}
-use borrow.Author.Rules.{rules}
+use Rattle.machine.specs.Memory.{spaces}
+use Rattle.run_execution.proofs.Running.{Going}
 use Rattle.run_execution.proofs.run_from.Given as goal
 
 -- `run_execution::run_from` meets its contract.

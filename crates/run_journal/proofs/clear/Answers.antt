@@ -1,9 +1,7 @@
-use Prim.Native.Nat.{◌*◌, ◌-◌}
 use native.Mathlib.Nat.{zero-add}
 use native.Mathlib.Omega.{arith}
 use mathlib.Core.Path.{refl}
-use Rattle.word.proofs.Stores.{Storing, storing_none, storing_more, storing-length}
-use Rattle.run_journal.specs.Journal.{entry_words}
+use Rattle.word.proofs.Stores.{storing_none, storing_more}
 use Rattle.run_journal.proofs.Clearing.{cleared}
 use Rattle.run_journal.proofs.clear.Goals as goal
 

@@ -1,10 +1,6 @@
 use Prim.Native.Nat.{◌*◌, ◌-◌}
-use native.Mathlib.Nat.{zero-add}
-use native.Mathlib.Omega.{arith}
-use mathlib.Core.Path.{refl}
-use Rattle.word.proofs.Stores.{Storing, storing_none, storing_more, storing-length}
+use Rattle.word.proofs.Stores.{Storing}
 use Rattle.run_journal.specs.Journal.{entry_words}
-use Rattle.run_journal.proofs.Clearing.{cleared}
 use Rattle.run_journal.proofs.clear.Given as goal
 
 -- `run_journal::clear` meets its contract.

@@ -1,5 +1,4 @@
 use mathlib.Core.Path.{refl}
-use borrow.Author.Rules.{rules}
 use Rattle.run_journal.specs.Journal.{entry_in}
 use Rattle.run_journal.proofs.entry_at.Goals as goal
 

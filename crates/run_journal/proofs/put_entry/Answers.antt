@@ -1,8 +1,6 @@
 use Prim.Native.Nat.{ℕ, suc, ◌+◌, ◌*◌}
 use native.Mathlib.Omega.{arith}
 use mathlib.Core.Path.{◌≡◌, refl}
-use borrow.Author.Rules.{rules}
-use lib.ListN.{length-set}
 use Rattle.run_journal.specs.Journal.{entry_words, words_of}
 use Rattle.run_journal.proofs.put_entry.Goals as goal
 

@@ -1,5 +1,4 @@
 use mathlib.Core.Path.{sym}
-use borrow.Author.Rules.{rules}
 use lib.Dec.{lit≤}
 use Rattle.machine.specs.Memory.{space_of, with_space}
 use Rattle.run_memory.proofs.Spaces.{placed_in, written_in, written_elsewhere}

@@ -1,5 +1,4 @@
 use mathlib.Core.Path.{ap, ◌∙◌}
-use borrow.Author.Rules.{rules}
 use lib.Seq.{sets}
 use Rattle.run_journal.proofs.Targets.{target_placed}
 use Rattle.run_journal.proofs.Undoing.{placed_with, entry_read}

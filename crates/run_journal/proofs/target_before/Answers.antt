@@ -1,6 +1,5 @@
 use native.Mathlib.Omega.{arith}
 use mathlib.Core.Path.{sym, ◌∙◌}
-use borrow.Author.Rules.{rules}
 use borrow.Author.Tests.{eq-eqb, ne_eqb}
 use Rattle.run_plan.proofs.Places.{in_words}
 use Rattle.run_journal.proofs.Targets.{not_the_end, before_end, before-store, before_other}

@@ -1,9 +1,5 @@
-use native.Mathlib.Omega.{arith}
-use mathlib.Core.Path.{ap}
-use borrow.Author.Rules.{rules}
-use Rattle.operation.specs.declared.layout.Lengths.{Lengths}
-use Rattle.machine.specs.Memory.{spaces, lengths_of}
-use Rattle.run_journal.proofs.Undoing.{Undoing, undoing_none, count_lengths, undoing_all, entry_fits, bytes_placed, labels_placed, undoing_more}
+use Rattle.machine.specs.Memory.{spaces}
+use Rattle.run_journal.proofs.Undoing.{Undoing}
 use Rattle.run_journal.proofs.undo.Given as goal
 
 -- `run_journal::undo` meets its contract.

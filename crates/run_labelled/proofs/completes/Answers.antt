@@ -1,6 +1,5 @@
 use mathlib.Core.Path.{refl, ◌∙◌}
 use Rattle.run_labelled.specs.Turns.{completes}
-use borrow.Author.Rules.{rules}
 use Rattle.run_labelled.proofs.completes.Goals as goal
 
 -- `run_labelled::completes` meets its contract.

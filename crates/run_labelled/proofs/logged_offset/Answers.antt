@@ -1,11 +1,8 @@
-use native.Mathlib.Omega.{arith}
 use mathlib.Core.Path.{refl}
-use borrow.Author.Rules.{scaled_Fits}
 use Rattle.operation.specs.Rules.{accesses}
 use Rattle.machine.specs.Effect.{operation_at}
 use Rattle.run_plan.proofs.Opcodes.{of_opcode}
 use Rattle.run_labelled.specs.Turns.{offset_logged}
-use borrow.Author.Rules.{rules}
 use Rattle.run_labelled.proofs.logged_offset.Goals as goal
 
 pub returns-then-accesses : goal.returns-then-accesses

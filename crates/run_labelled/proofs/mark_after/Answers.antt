@@ -1,9 +1,7 @@
-use mathlib.Core.Path.{refl}
-use borrow.Author.Rules.{rules}
 use Rattle.machine.specs.Program.{big_endian}
 use Rattle.machine.proofs.MovedCounts.{moved-spaces_none}
 use Rattle.run_plan.proofs.Places.{in_words}
-use Rattle.run_labelled.proofs.Marking.{nowhere_found, placed_found, marked, unmarked}
+use Rattle.run_labelled.proofs.Marking.{marked, unmarked}
 use Rattle.run_labelled.proofs.mark_after.Goals as goal
 
 -- ---- the needs
@@ -19,12 +17,11 @@ target_at-target-requires c =
 
 pub returns-then-target-ne0 : goal.returns-then-target-ne0
 unfolding big_endian
-returns-then-target-ne0 c =
-    (
-      rw c.if-completed.true
-          (marked _ _ _ c.logged_offset-offset.ensures _ c.target_at-target.ensures _ _ _ _ c.labels_written-labels.ensures c.mark.ensures.stored),
-      c.mark.ensures.moved,
-    )
+returns-then-target-ne0 c = (
+  rw c.if-completed.true
+      (marked _ _ _ c.logged_offset-offset.ensures _ c.target_at-target.ensures _ _ _ _ c.labels_written-labels.ensures c.mark.ensures.stored),
+  c.mark.ensures.moved,
+)
 
 pub returns-else-target-ne0 : goal.returns-else-target-ne0
 returns-else-target-ne0 c =

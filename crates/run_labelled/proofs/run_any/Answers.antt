@@ -1,17 +1,7 @@
-use Prim.Native.Nat.{◌-◌}
 use native.Mathlib.Omega.{arith}
-use mathlib.Core.Path.{sym, ap, ◌∙◌}
-use borrow.Author.Tests.{not-true, not-false}
-use Rattle.secret_counts.specs.Moved.{low_bit}
-use Rattle.operation.specs.declared.layout.Lengths.{Lengths}
-use Rattle.machine.specs.Program.{program_of}
-use Rattle.machine.specs.Memory.{spaces, lengths_of}
-use Rattle.machine.specs.Run.{run}
-use Rattle.machine.specs.MovedCounts.{MovedSpaces}
-use Rattle.machine.proofs.MovedCounts.{moved-spaces_none}
+use mathlib.Core.Path.{sym, ◌∙◌}
 use Rattle.machine.proofs.Runs.{run_laws}
-use Rattle.run_labelled.proofs.Turning.{Turning, begun, may_turn, within, logs_kept, lengths_kept, marks_kept, may_count, counts_on, at_ended, fewer, at_next}
-use borrow.Author.Rules.{rules}
+use Rattle.run_labelled.proofs.Turning.{may_turn, within, may_count, counts_on, at_ended, fewer, at_next}
 use Rattle.run_labelled.proofs.run_any.Goals as goal
 
 pub step_at-done-requires : goal.step_at-done-requires
@@ -26,22 +16,20 @@ overflow_add-executed c =
     omega (arith, c.ranges.budget)
 
 pub returns-then-not-both : goal.returns-then-not-both
-returns-then-not-both c =
-    (
-      rw c.run_report.ensures
-          (at_ended (run_laws _) c.loop-settings.invariant.0 _ c.turn-most.ensures _ _ _ _ c.step_at-done.ensures.0
-          (sym c.both.ensures ∙ c.if-not-both.true)),
-      counts_on (run_laws _) c.loop-settings.invariant.0 c.loop-settings.invariant.1 c.step_at-done.ensures.1,
-    )
+returns-then-not-both c = (
+  rw c.run_report.ensures
+      (at_ended (run_laws _) c.loop-settings.invariant.0 _ c.turn-most.ensures _ _ _ _ c.step_at-done.ensures.0
+      (sym c.both.ensures ∙ c.if-not-both.true)),
+  counts_on (run_laws _) c.loop-settings.invariant.0 c.loop-settings.invariant.1 c.step_at-done.ensures.1,
+)
 
 pub loop-settings-smaller : goal.loop-settings-smaller
 loop-settings-smaller c =
     fewer (run_laws _) c.loop-settings.invariant.0 _ c.turn-most.ensures _ _ _ _ c.step_at-done.ensures.0 (sym c.both.ensures ∙ c.if-not-both.false)
 
 pub loop-settings-preserved : goal.loop-settings-preserved
-loop-settings-preserved c =
-    (
-      at_next (run_laws _) c.loop-settings.invariant.0 _ c.turn-most.ensures _ _ _ _ c.step_at-done.ensures.0
-          (sym c.both.ensures ∙ c.if-not-both.false),
-      counts_on (run_laws _) c.loop-settings.invariant.0 c.loop-settings.invariant.1 c.step_at-done.ensures.1,
-    )
+loop-settings-preserved c = (
+  at_next (run_laws _) c.loop-settings.invariant.0 _ c.turn-most.ensures _ _ _ _ c.step_at-done.ensures.0
+      (sym c.both.ensures ∙ c.if-not-both.false),
+  counts_on (run_laws _) c.loop-settings.invariant.0 c.loop-settings.invariant.1 c.step_at-done.ensures.1,
+)

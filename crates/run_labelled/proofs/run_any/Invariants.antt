@@ -1,17 +1,10 @@
 use Prim.Native.Nat.{◌-◌}
-use native.Mathlib.Omega.{arith}
-use mathlib.Core.Path.{sym, ap, ◌∙◌}
-use borrow.Author.Tests.{not-true, not-false}
 use Rattle.secret_counts.specs.Moved.{low_bit}
-use Rattle.operation.specs.declared.layout.Lengths.{Lengths}
 use Rattle.machine.specs.Program.{program_of}
-use Rattle.machine.specs.Memory.{spaces, lengths_of}
+use Rattle.machine.specs.Memory.{spaces}
 use Rattle.machine.specs.Run.{run}
 use Rattle.machine.specs.MovedCounts.{MovedSpaces}
-use Rattle.machine.proofs.MovedCounts.{moved-spaces_none}
-use Rattle.machine.proofs.Runs.{run_laws}
-use Rattle.run_labelled.proofs.Turning.{Turning, begun, may_turn, within, logs_kept, lengths_kept, marks_kept, may_count, counts_on, at_ended, fewer, at_next}
-use borrow.Author.Rules.{rules}
+use Rattle.run_labelled.proofs.Turning.{Turning}
 use Rattle.run_labelled.proofs.run_any.Given as goal
 
 -- `run_labelled::run_any` meets its contract.

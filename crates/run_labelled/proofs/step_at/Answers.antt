@@ -1,8 +1,7 @@
-use borrow.Author.Rules.{rules}
 use Rattle.machine.specs.Program.{program_of}
 use Rattle.machine.proofs.MovedCounts.{moved-spaces_none}
 use Rattle.run_memory.proofs.Spaces.{of_bytes}
-use Rattle.run_labelled.proofs.OneTurn.{labels_valid, leaked_turn, may_mark, completes-labelled, turned}
+use Rattle.run_labelled.proofs.OneTurn.{leaked_turn, may_mark, completes-labelled, turned}
 use Rattle.run_labelled.proofs.step_at.Goals as goal
 
 pub returns-then-leak : goal.returns-then-leak

@@ -1,6 +1,5 @@
 use mathlib.Core.Path.{refl, sym, ◌∙◌}
 use Rattle.run_labelled.specs.Turns.{turn_of}
-use borrow.Author.Rules.{rules}
 use Rattle.run_labelled.proofs.turn.Goals as goal
 
 -- `run_labelled::turn` meets its contract.

@@ -1,6 +1,5 @@
 use Rattle.machine.specs.Effect.{operation_at}
 use Rattle.run_plan.proofs.Planning.{code_skips, code_leaves, code_follows}
-use Rattle.std.proofs.Common.{rules}
 use Rattle.run_plan.proofs.branch_at.Goals as goal
 
 -- `run_plan::branch_at` meets its contract.

@@ -1,4 +1,4 @@
-use Rattle.std.proofs.Common.{sym, ◌∙◌, rules}
+use Rattle.std.proofs.Common.{sym, ◌∙◌}
 use Rattle.run_plan.proofs.Opcodes.{late_no-access, late_no_branch, access_no_branch}
 use Rattle.run_plan.proofs.class_of.Goals as goal
 

@@ -1,4 +1,4 @@
-use Rattle.std.proofs.Common.{refl, rules}
+use Rattle.std.proofs.Common.{refl}
 use Rattle.run_plan.specs.Plans.{control}
 use Rattle.run_plan.proofs.control.Goals as goal
 

@@ -1,6 +1,5 @@
 use Rattle.machine.specs.Effect.{operation_at}
 use Rattle.run_plan.proofs.Planning.{code-jumps, code_copies, code_by-zero, may_compute, code_computes}
-use Rattle.std.proofs.Common.{rules}
 use Rattle.run_plan.proofs.data_at.Goals as goal
 
 -- `run_plan::data_at` meets its contract.

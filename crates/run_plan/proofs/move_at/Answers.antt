@@ -1,6 +1,5 @@
 use mathlib.Core.Bool.{not}
-use Rattle.std.proofs.Common.{sym, ap, ◌∙◌, rules}
-use borrow.Author.Tests.{not-false}
+use Rattle.std.proofs.Common.{sym, ap, ◌∙◌}
 use Rattle.operation.specs.declared.layout.Lengths.{Lengths}
 use Rattle.operation.specs.Rules.{length_of}
 use Rattle.machine.specs.Program.{program_of}

@@ -1,4 +1,4 @@
-use Rattle.std.proofs.Common.{ap, ◌∙◌, arith, rules, eq-eqb, ne_eqb}
+use Rattle.std.proofs.Common.{ap, ◌∙◌, arith, eq-eqb, ne_eqb}
 use Rattle.operation.specs.Rules.{accesses, branches}
 use Rattle.machine.specs.Program.{program_of}
 use Rattle.machine.specs.Memory.{value_at}

@@ -1,11 +1,7 @@
-use Prim.Native.Nat.{ℕ, ◌-◌, ◌≤◌, ◌<◌}
-use mathlib.Core.Bool.{false}
-use mathlib.Core.Path.{◌≡◌}
+use Prim.Native.Nat.{◌<◌}
 use native.Mathlib.Numerals.{add-one}
 use native.Mathlib.Omega.{arith}
-use borrow.Author.Rules.{rules}
-use lib.ListN.{length, get_or}
-use Rattle.machine.specs.Calls.{all_labels}
+use lib.ListN.{length}
 use Rattle.run_refusal.proofs.Labels.{largest_tells, more_low, more_high}
 use Rattle.run_refusal.proofs.all_labels.Goals as goal
 

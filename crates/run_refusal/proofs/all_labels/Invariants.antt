@@ -1,12 +1,8 @@
 use Prim.Native.Nat.{ℕ, ◌-◌, ◌≤◌, ◌<◌}
 use mathlib.Core.Bool.{false}
 use mathlib.Core.Path.{◌≡◌}
-use native.Mathlib.Numerals.{add-one}
-use native.Mathlib.Omega.{arith}
-use borrow.Author.Rules.{rules}
 use lib.ListN.{length, get_or}
 use Rattle.machine.specs.Calls.{all_labels}
-use Rattle.run_refusal.proofs.Labels.{largest_tells, more_low, more_high}
 use Rattle.run_refusal.proofs.all_labels.Given as goal
 
 -- `run_refusal::all_labels` meets its contract. The loop's invariant: no label passed is above `most`, and `most` is above 1 only where a

@@ -1,5 +1,4 @@
 use mathlib.Core.Path.{refl}
-use borrow.Author.Rules.{rules}
 use Rattle.machine.specs.Counts.{counts_fit}
 use Rattle.run_refusal.proofs.counts_fit.Goals as goal
 

@@ -1,5 +1,4 @@
 use mathlib.Core.Path.{refl}
-use borrow.Author.Rules.{rules}
 use Rattle.machine.specs.Calls.{labels_in_range}
 use Rattle.run_refusal.proofs.labels_in_range.Goals as goal
 

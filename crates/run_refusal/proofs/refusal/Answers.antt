@@ -1,5 +1,4 @@
 use mathlib.Core.Path.{◌∙◌}
-use borrow.Author.Rules.{rules}
 use Rattle.run_refusal.proofs.Refused.{refused_early, refused_list, refused_start}
 use Rattle.run_refusal.proofs.refusal.Goals as goal
 

@@ -1,5 +1,4 @@
 use mathlib.Core.Path.{refl}
-use borrow.Author.Rules.{rules}
 use Rattle.machine.specs.Calls.{same_lengths}
 use Rattle.run_refusal.proofs.same_lengths.Goals as goal
 

@@ -1,6 +1,5 @@
 use mathlib.Core.Path.{refl, ◌∙◌}
 use borrow.Author.Tests.{le-leb, lt-leb}
-use borrow.Author.Rules.{rules}
 use Rattle.speculation.specs.Speculation.{most_ahead, journal_words, speculative_refusal}
 use Rattle.run_refusal.proofs.Refused.{journal_first}
 use Rattle.run_refusal.proofs.speculative_refusal.Goals as goal

@@ -1,4 +1,3 @@
-use Rattle.std.proofs.Common.{rules}
 use Rattle.run_speculative.proofs.Ways.{answer-ended, answer_goes_on}
 use Rattle.run_speculative.proofs.answer_after.Goals as goal
 

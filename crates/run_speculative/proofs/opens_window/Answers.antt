@@ -1,5 +1,4 @@
-use Rattle.std.proofs.Common.{arith, rules}
-use Rattle.run_speculative.proofs.Ways.{none-opened, some_executed, looked}
+use Rattle.run_speculative.proofs.Ways.{none-opened, looked}
 use Rattle.run_speculative.proofs.opens_window.Goals as goal
 
 -- `run_speculative::opens_window` meets its contract.

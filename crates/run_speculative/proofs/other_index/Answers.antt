@@ -1,4 +1,3 @@
-use Rattle.std.proofs.Common.{rules}
 use Rattle.run_speculative.proofs.Ways.{other_found}
 use Rattle.run_speculative.proofs.other_index.Goals as goal
 

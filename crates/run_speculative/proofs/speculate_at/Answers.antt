@@ -1,5 +1,4 @@
-use Rattle.std.proofs.Common.{sym, refl, ap, ◌∙◌, true≢false, rules}
-use borrow.Author.Tests.{not-true, not-false}
+use Rattle.std.proofs.Common.{sym, refl, ap, ◌∙◌}
 use Rattle.machine.specs.Calls.{Outcome}
 use Rattle.run_memory.proofs.Spaces.{of_bytes}
 use Rattle.run_window.specs.Windows.{window_outcome}

@@ -1,14 +1,9 @@
-use Rattle.std.proofs.Common.{◌-◌, sym, refl, ap, ◌∙◌, arith, rules}
-use borrow.Author.Tests.{not-true, not-false}
+use Rattle.std.proofs.Common.{◌-◌}
 use Rattle.secret_counts.specs.Moved.{low_bit}
-use Rattle.operation.specs.declared.layout.Lengths.{Lengths}
 use Rattle.machine.specs.Program.{program_of}
-use Rattle.machine.specs.Memory.{spaces, lengths_of}
+use Rattle.machine.specs.Memory.{spaces}
 use Rattle.machine.specs.MovedCounts.{MovedSpaces}
-use Rattle.machine.proofs.MovedCounts.{moved-spaces_none}
-use Rattle.speculation.proofs.Runs.{speculate_laws}
-use Rattle.run_labelled.proofs.Turning.{within, logs_kept, lengths_kept, marks_kept, may_count, counts_on, at_ended, fewer}
-use Rattle.run_speculative.proofs.Turns.{Speculating, speculating, may-speculate, spared_on, speculating_next}
+use Rattle.run_speculative.proofs.Turns.{Speculating}
 use Rattle.run_speculative.proofs.speculate_from.Given as goal
 
 -- `run_speculative::speculate_from` meets its contract.

@@ -1,4 +1,3 @@
-use borrow.Author.Rules.{rules}
 use Rattle.run_taint.proofs.LabelWords.{top_small, extended_fits, extended_digits}
 use Rattle.run_taint.proofs.extended_word.Goals as goal
 

@@ -1,4 +1,3 @@
-use borrow.Author.Rules.{rules}
 use Rattle.run_memory.proofs.Spaces.{of_bytes}
 use Rattle.run_taint.proofs.LabelWords.{word-ordered}
 use Rattle.run_taint.proofs.labels_of.Goals as goal

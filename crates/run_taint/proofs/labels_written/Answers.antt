@@ -6,7 +6,6 @@ use Rattle.run_plan.proofs.Opcodes.{of_opcode}
 use Rattle.run_memory.proofs.Spaces.{of_bytes}
 use Rattle.run_plan.proofs.Places.{in_words}
 use Rattle.run_taint.proofs.LabelWords.{place_source, word_early, moves_bytes, some_output, place-moved, word_moved, place_input, flag_small, whole_most, word_whole}
-use borrow.Author.Rules.{rules}
 use Rattle.run_taint.proofs.labels_written.Goals as goal
 
 -- `run_taint::labels_written` meets its contract.

@@ -4,7 +4,6 @@ use Rattle.arithmetic.specs.Operands.{divides}
 use Rattle.run_plan.proofs.Opcodes.{of_opcode}
 use Rattle.run_plan.proofs.Places.{in_words}
 use Rattle.run_taint.proofs.Tainting.{division_no_branch, operands_tell, late_public, place}
-use borrow.Author.Rules.{rules}
 use Rattle.run_taint.proofs.leaks_at.Goals as goal
 
 -- `run_taint::leaks_at` meets its contract.

@@ -1,6 +1,5 @@
 use mathlib.Core.Path.{refl}
 use Rattle.machine.specs.Effect.{operation_at, pointee}
-use borrow.Author.Rules.{rules}
 use Rattle.run_taint.proofs.pointee_at.Goals as goal
 
 -- `run_taint::pointee_at` meets its contract.

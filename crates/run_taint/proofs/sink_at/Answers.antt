@@ -1,6 +1,5 @@
 use mathlib.Core.Path.{◌≡◌, refl, sym, ◌∙◌}
 use mathlib.Core.Bool.{true, false, ◌||◌}
-use borrow.Author.Rules.{rules}
 use lib.Dec.{eqb}
 use Rattle.operation.specs.Rules.{accesses}
 use Rattle.run_taint.proofs.Tainting.{early_no_division, watched-tested, sink_tells}

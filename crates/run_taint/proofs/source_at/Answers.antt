@@ -1,5 +1,4 @@
 use mathlib.Core.Path.{◌∙◌}
-use borrow.Author.Rules.{rules}
 use Rattle.machine.specs.Effect.{operation_at}
 use Rattle.run_plan.proofs.Opcodes.{opcode_is, opcode_is-not}
 use Rattle.run_taint.proofs.LabelWords.{source_loaded, source-stored, source_other}

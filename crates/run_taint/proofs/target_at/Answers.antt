@@ -2,7 +2,6 @@ use mathlib.Core.Path.{◌∙◌}
 use Rattle.machine.specs.Effect.{operation_at}
 use Rattle.run_plan.proofs.Opcodes.{opcode_is, opcode_is-not}
 use Rattle.run_taint.proofs.Tainting.{stores, outputs}
-use borrow.Author.Rules.{rules}
 use Rattle.run_taint.proofs.target_at.Goals as goal
 
 -- `run_taint::target_at` meets its contract.

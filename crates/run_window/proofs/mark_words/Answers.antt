@@ -1,8 +1,6 @@
-use Prim.Native.Nat.{◌-◌}
 use native.Mathlib.Omega.{arith}
-use borrow.Author.Rules.{rules}
 use Rattle.speculation.specs.Window.{window_mark}
-use Rattle.run_window.proofs.Marks.{Marking, marking_none, marking-length, marking_all, marking_fits, marking_more}
+use Rattle.run_window.proofs.Marks.{marking_none, marking_all, marking_fits, marking_more}
 use Rattle.run_window.proofs.mark_words.Goals as goal
 
 pub loop-k-init : goal.loop-k-init

@@ -1,8 +1,5 @@
 use Prim.Native.Nat.{◌-◌}
-use native.Mathlib.Omega.{arith}
-use borrow.Author.Rules.{rules}
-use Rattle.speculation.specs.Window.{window_mark}
-use Rattle.run_window.proofs.Marks.{Marking, marking_none, marking-length, marking_all, marking_fits, marking_more}
+use Rattle.run_window.proofs.Marks.{Marking}
 use Rattle.run_window.proofs.mark_words.Given as goal
 
 -- `run_window::mark_words` meets its contract.

@@ -1,5 +1,4 @@
 use mathlib.Core.Path.{◌∙◌}
-use borrow.Author.Rules.{rules}
 use Rattle.machine.specs.Program.{program_of}
 use Rattle.machine.proofs.MovedCounts.{of_words}
 use Rattle.run_window.proofs.GivenBack.{still_fit, given_back}

@@ -1,18 +1,11 @@
-use Prim.Native.Nat.{◌-◌}
 use native.Mathlib.Omega.{arith}
-use mathlib.Core.Path.{sym, ap, ◌∙◌}
-use borrow.Author.Tests.{not-true, not-false}
-use borrow.Author.Rules.{rules}
-use Rattle.secret_counts.specs.Moved.{low_bit}
-use Rattle.operation.specs.declared.layout.Lengths.{Lengths}
+use mathlib.Core.Path.{sym, ◌∙◌}
 use Rattle.machine.specs.Program.{program_of}
-use Rattle.machine.specs.Memory.{spaces, lengths_of}
-use Rattle.run_window.proofs.SavedRun.{SavedTurns, saved_begun, may_save, may-run, one_turn, saved_on, saved_next}
+use Rattle.run_window.proofs.SavedRun.{saved_begun, may_save, may-run, one_turn, saved_on, saved_next}
 use Rattle.run_memory.proofs.Spaces.{of_bytes}
-use Rattle.machine.specs.MovedCounts.{MovedSpaces}
 use Rattle.machine.proofs.MovedCounts.{moved-spaces_none}
 use Rattle.machine.proofs.Runs.{run_laws}
-use Rattle.run_labelled.proofs.Turning.{within, logs_kept, lengths_kept, marks_kept, may_count, counts_on, at_ended, fewer}
+use Rattle.run_labelled.proofs.Turning.{within, may_count, counts_on, at_ended, fewer}
 use Rattle.run_window.proofs.run_saved.Goals as goal
 
 -- ---- the needs
@@ -58,12 +51,11 @@ loop-settings-smaller c =
     fewer (run_laws _) g.turning 1 (one_turn g) _ _ _ _ c.run_any-done.ensures.0 (sym c.both.ensures ∙ c.if-not-both.false)
 
 pub loop-settings-preserved : goal.loop-settings-preserved
-loop-settings-preserved c =
-    (
-      saved_next c.loop-settings.invariant.0 _ c.save.ensures _ _ _ _ c.run_any-done.ensures.0
-          (of_bytes _ _ _ (λ j. (c.slice_known-in-loop-settings-2-1.given j).fits) (λ j. (c.slice_known-in-loop-settings-3-1.given j).fits)
-          (λ j. (c.slice_known-in-loop-settings-4-1.given j).fits))
-          (of_bytes _ _ _ (λ j. (c.slice_known-in-loop-settings-5-1.given j).fits) (λ j. (c.slice_known-in-loop-settings-6-1.given j).fits)
-          (λ j. (c.slice_known-in-loop-settings-7-1.given j).fits)) (sym c.both.ensures ∙ c.if-not-both.false),
-      counts_on (run_laws _) c.loop-settings.invariant.0.turning c.loop-settings.invariant.1 c.run_any-done.ensures.1,
-    )
+loop-settings-preserved c = (
+  saved_next c.loop-settings.invariant.0 _ c.save.ensures _ _ _ _ c.run_any-done.ensures.0
+      (of_bytes _ _ _ (λ j. (c.slice_known-in-loop-settings-2-1.given j).fits) (λ j. (c.slice_known-in-loop-settings-3-1.given j).fits)
+      (λ j. (c.slice_known-in-loop-settings-4-1.given j).fits))
+      (of_bytes _ _ _ (λ j. (c.slice_known-in-loop-settings-5-1.given j).fits) (λ j. (c.slice_known-in-loop-settings-6-1.given j).fits)
+      (λ j. (c.slice_known-in-loop-settings-7-1.given j).fits)) (sym c.both.ensures ∙ c.if-not-both.false),
+  counts_on (run_laws _) c.loop-settings.invariant.0.turning c.loop-settings.invariant.1 c.run_any-done.ensures.1,
+)

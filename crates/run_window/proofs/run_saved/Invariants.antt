@@ -1,18 +1,9 @@
 use Prim.Native.Nat.{◌-◌}
-use native.Mathlib.Omega.{arith}
-use mathlib.Core.Path.{sym, ap, ◌∙◌}
-use borrow.Author.Tests.{not-true, not-false}
-use borrow.Author.Rules.{rules}
 use Rattle.secret_counts.specs.Moved.{low_bit}
-use Rattle.operation.specs.declared.layout.Lengths.{Lengths}
 use Rattle.machine.specs.Program.{program_of}
-use Rattle.machine.specs.Memory.{spaces, lengths_of}
-use Rattle.run_window.proofs.SavedRun.{SavedTurns, saved_begun, may_save, may-run, one_turn, saved_on, saved_next}
-use Rattle.run_memory.proofs.Spaces.{of_bytes}
+use Rattle.machine.specs.Memory.{spaces}
+use Rattle.run_window.proofs.SavedRun.{SavedTurns}
 use Rattle.machine.specs.MovedCounts.{MovedSpaces}
-use Rattle.machine.proofs.MovedCounts.{moved-spaces_none}
-use Rattle.machine.proofs.Runs.{run_laws}
-use Rattle.run_labelled.proofs.Turning.{within, logs_kept, lengths_kept, marks_kept, may_count, counts_on, at_ended, fewer}
 use Rattle.run_window.proofs.run_saved.Given as goal
 
 -- `run_window::run_saved` meets its contract.
