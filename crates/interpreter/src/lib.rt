@@ -1,6 +1,7 @@
 // The public calls. None asks anything of its caller: the validator and the runs answer bad input by number, and show by an
 // empty part.
 #![tactic(auto)]
+
 ghost use Rattle.std.specs.Prelude.{◌≡◌};
 ghost use Rattle.validation.specs.Verdict.{verdict};
 ghost use Rattle.machine.specs.Memory.{spaces};

@@ -1,5 +1,6 @@
 // The runs with their refusals: crates/interpreter has them as public calls.
 #![tactic(auto)]
+
 ghost use Rattle.machine.specs.Memory.{spaces};
 ghost use Rattle.runs.specs.Promises.{RunPromise, LabelledRunPromise, SpeculativeRunPromise, CountingPromise};
 

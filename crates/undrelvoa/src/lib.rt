@@ -2,6 +2,7 @@
 // differ, size is output_size, out is result, a register slice is register_space, and the validator's unique, register and ram are the
 // three lengths. A call that answers another number than 0 changes no buffer.
 #![tactic(auto)]
+
 ghost use Rattle.std.specs.Prelude.{◌≡◌, cond, eqb, ◌+◌, ◌≤◌, length, set};
 ghost use Rattle.std.proofs.lemmas.List.Edits.{sets};
 ghost use Rattle.word.specs.Word.{part, value_of, bytes_of};

@@ -30,9 +30,8 @@ loop-settings-smaller c =
     (sym c.both.ensures ∙ c.if-not-both.false)
 
 pub loop-settings-preserved : goal.loop-settings-preserved
-loop-settings-preserved c =
-    (
-      speculating_next c.loop-settings.invariant.0 _ c.turn-most.ensures _ c.speculate_at-done.ensures.1 _ _ _ _ c.speculate_at-done.ensures.0
-          (sym c.both.ensures ∙ c.if-not-both.false),
-      counts_on (speculate_laws _ _) c.loop-settings.invariant.0.turning c.loop-settings.invariant.1 c.speculate_at-done.ensures.2,
-    )
+loop-settings-preserved c = (
+  speculating_next c.loop-settings.invariant.0 _ c.turn-most.ensures _ c.speculate_at-done.ensures.1 _ _ _ _ c.speculate_at-done.ensures.0
+      (sym c.both.ensures ∙ c.if-not-both.false),
+  counts_on (speculate_laws _ _) c.loop-settings.invariant.0.turning c.loop-settings.invariant.1 c.speculate_at-done.ensures.2,
+)

@@ -1,7 +1,5 @@
-use mathlib.Core.Path.{◌≡◌, refl}
-use borrow.Author.Rules.{rules}
+use mathlib.Core.Path.{refl}
 use Rattle.machine.specs.Memory.{spaces, lengths_of}
-use Rattle.machine.specs.Counts.{counting_refusal}
 use Rattle.runs.proofs.Accepted.{filling_found, may_fill, filled_all, filled_none}
 use Rattle.runs.proofs.count_secrets.Goals as goal
 

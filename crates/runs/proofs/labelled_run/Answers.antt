@@ -1,8 +1,6 @@
 use native.Mathlib.Omega.{arith}
-use mathlib.Core.Path.{◌≡◌, refl}
-use borrow.Author.Rules.{rules}
+use mathlib.Core.Path.{refl}
 use Rattle.machine.specs.Memory.{spaces, lengths_of}
-use Rattle.machine.specs.Counts.{counted_refusal}
 use Rattle.machine.proofs.MovedCounts.{of_words}
 use Rattle.runs.proofs.Accepted.{counted_found, counted_refused, counted_accepted, counted_ran}
 use Rattle.runs.proofs.labelled_run.Goals as goal
@@ -14,7 +12,7 @@ returns-then-refused-ne0 c =
     let labels = spaces c.args.unique_labels.now c.args.register_labels.now c.args.ram_labels.now in
     let counts = spaces c.args.unique_counts.now c.args.register_counts.now c.args.ram_counts.now in
     let found = counted_found c.args.settings c.args.list.now c.args.start labels memory counts _ _ _ _ c.labelled_refusal-refused.ensures c.counts_fit-lent.ensures
-        c.lengths_of.ensures refl in
+    c.lengths_of.ensures refl in
     counted_refused _ _ _ _ _ labels memory counts _ found c.if-refused-ne0.true
 
 pub run_any-requires : goal.run_any-requires
@@ -24,7 +22,7 @@ run_any-requires c =
     let labels = spaces c.args.unique_labels.now c.args.register_labels.now c.args.ram_labels.now in
     let counts = spaces c.args.unique_counts.now c.args.register_counts.now c.args.ram_counts.now in
     let found = counted_found c.args.settings c.args.list.now c.args.start labels memory counts _ _ _ _ c.labelled_refusal-refused.ensures c.counts_fit-lent.ensures
-        c.lengths_of.ensures refl in
+    c.lengths_of.ensures refl in
     let a = counted_accepted _ _ _ c.args.budget c.args.log.now labels memory counts _ found c.if-refused-ne0.false in
     (a.0, a.1, omega arith, a.2, a.4, λ t. a.5)
 
@@ -35,7 +33,7 @@ returns c =
     let labels = spaces c.args.unique_labels.now c.args.register_labels.now c.args.ram_labels.now in
     let counts = spaces c.args.unique_counts.now c.args.register_counts.now c.args.ram_counts.now in
     let found = counted_found c.args.settings c.args.list.now c.args.start labels memory counts _ _ _ _ c.labelled_refusal-refused.ensures c.counts_fit-lent.ensures
-        c.lengths_of.ensures refl in
+    c.lengths_of.ensures refl in
     counted_ran _ _ _ _ _ labels memory counts _ found c.if-refused-ne0.false _ _ _ _ _ c.run_any.ensures.0 c.run_any.ensures.1
     (of_words _ _ _ (λ j. (c.slice_known-7-1.given j).fits) (λ j. (c.slice_known-8-1.given j).fits) (λ j. (c.slice_known-9-1.given j).fits))
     (of_words _ _ _ (λ j. (c.slice_known-17-1.given j).fits) (λ j. (c.slice_known-18-1.given j).fits)

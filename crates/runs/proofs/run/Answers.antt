@@ -3,7 +3,6 @@ use mathlib.Core.Path.{sym, ◌∙◌}
 use mathlib.Core.Bool.{true≢false}
 use Rattle.machine.specs.Calls.{unlabelled, plain_run}
 use Rattle.runs.proofs.Accepted.{accepted, leaves_as_lent, leaves_run, none_fit, plain_of}
-use borrow.Author.Rules.{rules}
 use Rattle.runs.proofs.run.Goals as goal
 
 -- `runs::run` meets its contract.

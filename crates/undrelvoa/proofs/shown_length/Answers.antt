@@ -1,5 +1,4 @@
 use mathlib.Core.Path.{ap, ◌∙◌}
-use borrow.Author.Rules.{rules}
 use lib.ListN.{length}
 use Rattle.show.specs.Show.{View}
 use Rattle.undrelvoa.proofs.Shown.{shown-length}

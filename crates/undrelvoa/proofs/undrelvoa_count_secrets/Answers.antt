@@ -1,6 +1,4 @@
-use mathlib.Core.Path.{refl, ap, sym, ◌∙◌}
-use borrow.Author.Tests.{ne_eqb}
-use borrow.Author.Rules.{rules}
+use mathlib.Core.Path.{ap, sym, ◌∙◌}
 use Rattle.undrelvoa_faults.proofs.Passed.{report-passed}
 use Rattle.undrelvoa.specs.Buffers.{after_counting}
 use Rattle.undrelvoa.proofs.undrelvoa_count_secrets.Goals as goal
@@ -12,7 +10,7 @@ write_report-requires c =
 pub returns : goal.returns
 unfolding after_counting
 returns c =
-     record {
+    record {
       answer = sym c.if-fault-ne0.false ∙ c.of_report-fault.ensures;
       buffers = rw c.write_report.ensures (ap (after_counting _) c.count_secrets-counted.ensures);
     }

@@ -1,6 +1,4 @@
-use mathlib.Core.Path.{refl, sym, ◌∙◌}
-use borrow.Author.Tests.{ne_eqb}
-use borrow.Author.Rules.{rules}
+use mathlib.Core.Path.{sym, ◌∙◌}
 use Rattle.undrelvoa_faults.proofs.Passed.{gather-passed}
 use Rattle.undrelvoa.proofs.undrelvoa_gather.Goals as goal
 

@@ -1,6 +1,4 @@
 use mathlib.Core.Path.{refl, sym, ◌∙◌}
-use borrow.Author.Tests.{ne_eqb}
-use borrow.Author.Rules.{rules}
 use Rattle.undrelvoa_faults.proofs.Passed.{place-passed}
 use Rattle.undrelvoa.specs.Answers.{place_words}
 use Rattle.undrelvoa.proofs.undrelvoa_show.Goals as goal
@@ -12,7 +10,7 @@ write_place-requires c =
 pub returns : goal.returns
 unfolding place_words
 returns c =
-     record {
+    record {
       answer = sym c.if-fault-ne0.false ∙ c.of_place-fault.ensures;
       buffer = c.write_place.ensures ∙ rw c.shown_length-shown.ensures refl;
     }

@@ -1,6 +1,4 @@
-use mathlib.Core.Path.{refl, ap, sym, ◌∙◌}
-use borrow.Author.Tests.{ne_eqb}
-use borrow.Author.Rules.{rules}
+use mathlib.Core.Path.{ap, sym, ◌∙◌}
 use Rattle.undrelvoa_faults.proofs.Passed.{lengths-passed}
 use Rattle.undrelvoa.specs.Buffers.{after, after_speculation}
 use Rattle.undrelvoa.proofs.undrelvoa_speculative_run.Goals as goal
@@ -15,7 +13,7 @@ write_report-requires c =
 pub returns : goal.returns
 unfolding after after_speculation
 returns c =
-     record {
+    record {
       answer = sym c.if-fault-ne0.false ∙ c.of_lengths-fault.ensures;
       buffers = rw (c.write_report.ensures, sym c.settings_in-settings.ensures) (ap (after_speculation _) c.speculative_run-ran.ensures);
     }

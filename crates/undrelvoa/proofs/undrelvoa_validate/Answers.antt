@@ -1,6 +1,4 @@
 use mathlib.Core.Path.{refl, sym, ◌∙◌}
-use borrow.Author.Tests.{ne_eqb}
-use borrow.Author.Rules.{rules}
 use Rattle.undrelvoa_faults.proofs.Passed.{lengths-passed}
 use Rattle.undrelvoa.specs.Answers.{verdict_words}
 use Rattle.undrelvoa.proofs.undrelvoa_validate.Goals as goal
@@ -15,7 +13,7 @@ write_report-requires c =
 pub returns : goal.returns
 unfolding verdict_words
 returns c =
-     record {
+    record {
       answer = sym c.if-fault-ne0.false ∙ c.of_lengths-fault.ensures;
       buffer = c.write_report.ensures ∙ rw (c.validate-verdict.ensures, c.settings_in-settings.ensures) refl;
     }

@@ -1,5 +1,4 @@
 use mathlib.Core.Path.{refl}
-use borrow.Author.Rules.{rules}
 use Rattle.undrelvoa.specs.Buffers.{settings_in}
 use Rattle.undrelvoa.proofs.words.settings_in.Goals as goal
 
