@@ -38,7 +38,7 @@ extern "C" {
 #define UNDRELVOA_VERSION "4.0.1"
 #define UNDRELVOA_VERSION_MAJOR 4
 #define UNDRELVOA_VERSION_MINOR 0
-#define UNDRELVOA_VERSION_PATCH 0
+#define UNDRELVOA_VERSION_PATCH 1
 
 /* Limits. The verdict, the runs and undrelvoa_count_secrets refuse what is beyond them. */
 #define UNDRELVOA_MAX_OPERATIONS 4096   /* operations of a list */
