@@ -132,15 +132,17 @@ module _ (program : Program) where
 
 -- ---- the call
 
--- `fitting` says that no labels and no other lent buffer call for 11
-pub called_below : (settings : Settings) (list : List ℕ) (start budget : ℕ) (log : List ℕ) (labels m : Memory) (fitting valid : Bool) (k : ℕ)
-    → (let o = called settings list start budget log labels m (refusal settings (lengths_of m) list start fitting valid) in
-    k < o.report.logged → get_or o.log k 0 < window_mark)
-unfolding called outcome_of log_after starting
-called_below settings list start budget log labels m fitting valid k = by (eqb refused.ending 0) refl
+pub labelled_below : (settings : Settings) (list : List ℕ) (start budget : ℕ) (log : List ℕ) (labels m : Memory) (k : ℕ)
+    → k < (labelled_run settings list start budget log labels m).report.logged
+    → get_or (labelled_run settings list start budget log labels m).log k 0 < window_mark
+unfolding labelled_run called outcome_of log_after starting
+labelled_below settings list start budget log labels m k = by (eqb refused.ending 0) refl
   where
+    fitting : Bool
+    fitting = same_lengths (lengths_of labels) (lengths_of m)
+
     refused : Report
-    refused = refusal settings (lengths_of m) list start fitting valid
+    refused = refusal settings (lengths_of m) list start fitting (labels_in_range labels)
 
     r : Ended
     r = run (program_of settings list) budget (starting start (length log)) labels m
@@ -150,14 +152,7 @@ called_below settings list start budget log labels m fitting valid k = by (eqb r
 
     by : (t : Bool) → eqb refused.ending 0 ≡ t → k < (cond t (outcome_of log r) lent).report.logged → get_or (cond t (outcome_of log r) lent).log k 0 < window_mark
     by true t h =
-        let l = (accepted settings (lengths_of m) list start fitting valid t).lengths_right in
+        let l = (accepted settings (lengths_of m) list start fitting (labels_in_range labels) t).lengths_right in
         let w = run_below (program_of settings list) budget (starting start (length log)) labels m l none in
         rw (get_or-append r.position.log (drop (length r.position.log) log) 0 k h) (below_at w k h)
-    by false t h = absurd (omega (arith, h, (refusal_report_lem (refusal_refuses settings (lengths_of m) list start fitting valid)).1))
-
-pub labelled_below : (settings : Settings) (list : List ℕ) (start budget : ℕ) (log : List ℕ) (labels m : Memory) (k : ℕ)
-    → k < (labelled_run settings list start budget log labels m).report.logged
-    → get_or (labelled_run settings list start budget log labels m).log k 0 < window_mark
-unfolding labelled_run
-labelled_below settings list start budget log labels m =
-    called_below settings list start budget log labels m (same_lengths (lengths_of labels) (lengths_of m)) (labels_in_range labels)
+    by false t h = absurd (omega (arith, h, (refusal_report_lem (refusal_refuses settings (lengths_of m) list start fitting (labels_in_range labels))).1))

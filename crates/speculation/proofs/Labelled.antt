@@ -1,5 +1,5 @@
 -- The speculative run against the labelled run, as one claim.
-use Prim.Native.Nat.{ℕ, ◌+◌, ◌*◌, ◌≤◌}
+use Prim.Native.Nat.{ℕ, ◌+◌}
 use native.Mathlib.Omega.{arith}
 use mathlib.Core.Bool.{Bool, true, false, cond}
 use mathlib.Core.List.{List, [], ◌∷◌, ◌++◌, append-nil}
@@ -9,6 +9,7 @@ use lib.Dec.{eqb, ltb}
 use lib.ListN.{length}
 use Rattle.operation.specs.declared.layout.Settings.{Settings}
 use Rattle.operation.specs.declared.report.Report.{Report}
+use Rattle.validation.specs.Verdict.{lengths_in_range}
 use Rattle.machine.specs.Program.{Program, program_of}
 use Rattle.machine.specs.Memory.{Memory, lengths_of}
 use Rattle.machine.specs.Run.{Position, Ended, run}
@@ -16,7 +17,7 @@ use Rattle.machine.specs.Calls.{Outcome, labelled_outcome, same_lengths, labels_
 use Rattle.machine.proofs.Refusals.{refusal_refuses, refusal_report_lem, accepted}
 use Rattle.machine.proofs.Noninterference.{logged-words}
 use Rattle.speculation.specs.Window.{window_mark, marked}
-use Rattle.speculation.specs.Speculation.{most_ahead, journal_words, speculative_refusal, Speculation, speculation, speculate, journal_after, called_ahead, speculative_run}
+use Rattle.speculation.specs.Speculation.{most_ahead, journal_words, Speculation, speculation, speculate, journal_after, called_ahead, speculative_run}
 use Rattle.speculation.specs.Labelled.{unmarked, MarkedAside, AsFar, AgainstLabelled}
 use Rattle.speculation.proofs.Accepted.{ahead-refusal}
 use Rattle.speculation.proofs.Below.{Below, none, more, run_below, labelled_below}
@@ -78,67 +79,69 @@ outcome_far : (log : List ℕ) {r q : Ended} → Reaches r q → AsFar (outcome_
 unfolding outcome_of
 outcome_far log e = record { index = e.index; executed = e.executed; memory = e.memory; labels = e.labels }
 
--- `fitting` says that no labels and no other lent buffer call for 11
-module _ (settings : Settings) (list : List ℕ) (start budget window : ℕ) (log journal : List ℕ) (labels m : Memory) (fitting valid : Bool) (few : window ≤ 64)
-    (long : 4 * window ≤ length journal) where
-  abbrev program : Program
-  program = program_of settings list
+called_aside : (settings : Settings) (list : List ℕ) (start budget window : ℕ) (log journal : List ℕ) (labels m : Memory) (refused : Report)
+    → refused.logged ≡ 0 → (eqb refused.ending 0 ≡ true → lengths_in_range (lengths_of m) list ≡ true)
+    → (Short (called_ahead settings list start budget window log journal labels m refused).outcome.report.ending → ⊥)
+    → MarkedAside (called_ahead settings list start budget window log journal labels m refused).outcome (called settings list start budget log labels m refused)
+unfolding called_ahead called outcome_of starting unmarked
+called_aside settings list start budget window log journal labels m refused no_words fits = by (eqb refused.ending 0) refl
+  where
+    from : Position
+    from = starting start (length log)
 
-  abbrev from : Position
-  from = starting start (length log)
+    ran : Speculation
+    ran = record { outcome = outcome_of log (speculate (program_of settings list) window budget from labels m); journal = journal_after window journal }
 
-  abbrev refused : Report
-  refused = refusal settings (lengths_of m) list start fitting valid
+    lent : Outcome
+    lent = labelled_outcome refused m labels log
 
-  abbrev ran : Outcome
-  ran = outcome_of log (speculate program window budget from labels m)
+    by : (t : Bool) → eqb refused.ending 0 ≡ t → (Short (cond t ran (speculation refused m labels log journal)).outcome.report.ending → ⊥)
+        → MarkedAside (cond t ran (speculation refused m labels log journal)).outcome (cond t (outcome_of log (run (program_of settings list) budget from labels m)) lent)
+    by true t ne =
+        outcome_aside log (speculate_equal (program_of settings list) window budget from from labels m (placed (omega arith) Aside.start) ne)
+        (run_below (program_of settings list) budget from labels m (fits t) none)
+    by false t ne = record { ending = refl; index = refl; executed = refl; value = refl; memory = refl; labels = refl; log = rw no_words refl }
 
-  abbrev call : Speculation
-  call = called_ahead settings list start budget window log journal labels m (speculative_refusal settings (lengths_of m) list start window (length journal) fitting valid)
+called_far : (settings : Settings) (list : List ℕ) (start budget window : ℕ) (log journal : List ℕ) (labels m : Memory) (refused : Report)
+    → (let o = (called_ahead settings list start budget window log journal labels m refused).outcome in
+    AsFar o (called settings list start o.report.executed log labels m refused))
+unfolding called_ahead called outcome_of starting
+called_far settings list start budget window log journal labels m refused = by (eqb refused.ending 0)
+  where
+    program : Program
+    program = program_of settings list
 
-  -- as it is left, by whether it runs
-  abbrev left : Bool → Outcome
-  left t = cond t ran (labelled_outcome refused m labels log)
+    from : Position
+    from = starting start (length log)
 
-  call-left : call.outcome ≡ left (eqb refused.ending 0)
-  unfolding called_ahead most_ahead journal_words
-  call-left = rw (ahead-refusal settings (lengths_of m) list start window (length journal) fitting valid few long) (by (eqb refused.ending 0))
-    where
-      by : (t : Bool) → (cond t (record { outcome = ran; journal = journal_after window journal }) (speculation refused m labels log journal)).outcome ≡ left t
-      by true = refl
-      by false = refl
+    ran : Speculation
+    ran = record { outcome = outcome_of log (speculate program window budget from labels m); journal = journal_after window journal }
 
-  pub call_aside : (Short call.outcome.report.ending → ⊥) → MarkedAside call.outcome (called settings list start budget log labels m refused)
-  unfolding called outcome_of starting unmarked
-  call_aside = rw call-left (by (eqb refused.ending 0) refl)
-    where
-      by : (t : Bool) → eqb refused.ending 0 ≡ t → (Short (left t).report.ending → ⊥)
-          → MarkedAside (left t) (cond t (outcome_of log (run program budget from labels m)) (labelled_outcome refused m labels log))
-      by true t ne =
-          outcome_aside log (speculate_equal program window budget from from labels m (placed (omega arith) Aside.start) ne)
-          (run_below program budget from labels m (accepted settings (lengths_of m) list start fitting valid t).lengths_right none)
-      by false t ne =
-          let no_words = (refusal_report_lem (refusal_refuses settings (lengths_of m) list start fitting valid)).1 in
-          record { ending = refl; index = refl; executed = refl; value = refl; memory = refl; labels = refl; log = rw no_words refl }
+    left : Bool → Outcome
+    left t = (cond t ran (speculation refused m labels log journal)).outcome
 
-  pub call_far : AsFar call.outcome (called settings list start call.outcome.report.executed log labels m refused)
-  unfolding called outcome_of starting
-  call_far = rw call-left (by (eqb refused.ending 0))
-    where
-      by : (t : Bool) → AsFar (left t) (cond t (outcome_of log (run program (left t).report.executed from labels m)) (labelled_outcome refused m labels log))
-      by true =
-          let far = speculate_far program window budget from from labels m (placed (omega arith) Aside.start) in
-          let all : far.operations ≡ ran.report.executed = omega (arith, far.counted) in
-          outcome_far log (rw all at far.reaches)
-      by false = record { index = refl; executed = refl; memory = refl; labels = refl }
+    by : (t : Bool) → AsFar (left t) (cond t (outcome_of log (run program (left t).report.executed from labels m)) (labelled_outcome refused m labels log))
+    by true =
+        let far = speculate_far program window budget from from labels m (placed (omega arith) Aside.start) in
+        let all : far.operations ≡ ran.outcome.report.executed = omega (arith, far.counted) in
+        outcome_far log (rw all at far.reaches)
+    by false = record { index = refl; executed = refl; memory = refl; labels = refl }
 
 pub against-labelled : AgainstLabelled
-unfolding speculative_run labelled_run
+unfolding speculative_run labelled_run most_ahead journal_words
 against-labelled = record {
   aside = λ settings list start budget window log journal labels m w j n34 n35.
-      call_aside settings list start budget window log journal labels m (same_lengths (lengths_of labels) (lengths_of m)) (labels_in_range labels) w j (not_short n34 n35);
-  as_far = λ settings list start budget window log journal labels m.
-      call_far settings list start budget window log journal labels m (same_lengths (lengths_of labels) (lengths_of m)) (labels_in_range labels);
+      let fitting = same_lengths (lengths_of labels) (lengths_of m) in
+      let valid = labels_in_range labels in
+      let refused = ahead-refusal settings (lengths_of m) list start window (length journal) fitting valid w j in
+      rw refused
+      (called_aside settings list start budget window log journal labels m (refusal settings (lengths_of m) list start fitting valid)
+      (refusal_report_lem (refusal_refuses settings (lengths_of m) list start fitting valid)).1
+      (λ z. (accepted settings (lengths_of m) list start fitting valid z).lengths_right)
+      (not_short (rw refused at n34) (rw refused at n35)));
+  as_far = λ settings list start budget window log journal labels m w j.
+      rw (ahead-refusal settings (lengths_of m) list start window (length journal) (same_lengths (lengths_of labels) (lengths_of m)) (labels_in_range labels) w j)
+      (called_far settings list start budget window log journal labels m _);
   below = labelled_below;
   no_window = no_window;
 }

@@ -13,10 +13,10 @@ use Rattle.machine.specs.Program.{Program, program_of}
 use Rattle.machine.specs.Memory.{Memory, lengths_of}
 use Rattle.machine.specs.Effect.{operation_at}
 use Rattle.machine.specs.Run.{Position, Ended, Stepped, ended, stepped, continued, run}
-use Rattle.machine.specs.Calls.{Outcome, same_lengths, labels_in_range, refusal, starting, called, labelled_run}
+use Rattle.machine.specs.Calls.{Outcome, same_lengths, labels_in_range, starting, called, labelled_run}
 use Rattle.machine.proofs.Cases.{either_equal}
 use Rattle.speculation.specs.Window.{Way, Window, ahead, window_of, marked, with_words, right_way, reached, after_window, tried, passed, speculated}
-use Rattle.speculation.specs.Speculation.{Speculation, speculate, journal_words, speculative_refusal, journal_after, called_ahead, speculative_run}
+use Rattle.speculation.specs.Speculation.{Speculation, speculate, journal_words, journal_after, called_ahead, speculative_run}
 use Rattle.speculation.proofs.Accepted.{ahead-refusal}
 
 -- ---- a window of no operations closes and writes nothing
@@ -80,18 +80,10 @@ called_same settings list start budget log journal labels m refused =
     by true a b = refl
     by false a b = refl
 
--- `fitting` says that no labels and no other lent buffer call for 11
-called_no_window : (settings : Settings) (list : List ℕ) (start budget : ℕ) (log journal : List ℕ) (labels m : Memory) (fitting valid : Bool)
-    → called_ahead settings list start budget 0 log journal labels m (speculative_refusal settings (lengths_of m) list start 0 (length journal) fitting valid)
-    ≡ record { outcome = called settings list start budget log labels m (refusal settings (lengths_of m) list start fitting valid); journal = journal }
-unfolding journal_words
-called_no_window settings list start budget log journal labels m fitting valid =
-    rw (ahead-refusal settings (lengths_of m) list start 0 (length journal) fitting valid (omega arith) (omega arith))
-    (called_same settings list start budget log journal labels m _)
-
 pub no_window : (settings : Settings) (list : List ℕ) (start budget : ℕ) (log journal : List ℕ) (labels m : Memory)
     → speculative_run settings list start budget 0 log journal labels m
     ≡ record { outcome = labelled_run settings list start budget log labels m; journal = journal }
-unfolding speculative_run labelled_run
+unfolding speculative_run labelled_run journal_words
 no_window settings list start budget log journal labels m =
-    called_no_window settings list start budget log journal labels m (same_lengths (lengths_of labels) (lengths_of m)) (labels_in_range labels)
+    rw (ahead-refusal settings (lengths_of m) list start 0 (length journal) (same_lengths (lengths_of labels) (lengths_of m)) (labels_in_range labels) (omega arith) (omega arith))
+    (called_same settings list start budget log journal labels m _)
