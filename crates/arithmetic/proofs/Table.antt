@@ -44,30 +44,30 @@ either_row : (t : Bool) (row rest : ℕ × ℕ × ℕ × Sizes) (most : ℕ) →
 either_row true row rest most h q = h
 either_row false row rest most h q = q
 
-few-inputs : (n last most : ℕ) (rows : List (ℕ × ℕ × ℕ × Sizes)) → up_to last most rows ≡ true → (row_of n rows).2 ≤ most
+few_inputs : (n last most : ℕ) (rows : List (ℕ × ℕ × ℕ × Sizes)) → up_to last most rows ≡ true → (row_of n rows).2 ≤ most
 unfolding row_of
-few-inputs n last most [] t = omega arith
-few-inputs n last most (row ∷ rows) t =
+few_inputs n last most [] t = omega arith
+few_inputs n last most (row ∷ rows) t =
     let e = both (leb row.0 last && leb row.2 most) (up_to last most rows) t in
     let l : row.2 ≤ most = leb-true row.2 most (both (leb row.0 last) (leb row.2 most) e.0).1 in
-    either_row (eqb n row.0) row (row_of n rows) most l (few-inputs n last most rows e.1)
+    either_row (eqb n row.0) row (row_of n rows) most l (few_inputs n last most rows e.1)
 
 -- a number past the last opcode has no varnodes and no sizes
 past_last : (n : ℕ) → last_opcode < n → row_of n opcodes ≡ (n, 0, 0, none)
 unfolding opcodes
 past_last n h = no_row n last_opcode most_inputs opcodes refl h
 
-past-outputs : (n : ℕ) → last_opcode < n → outputs n ≡ 0
+past_outputs : (n : ℕ) → last_opcode < n → outputs n ≡ 0
 unfolding outputs
-past-outputs n h = ap (λ row. row.1) (past_last n h)
+past_outputs n h = ap (λ row. row.1) (past_last n h)
 
-past-inputs : (n : ℕ) → last_opcode < n → inputs n ≡ 0
+past_inputs : (n : ℕ) → last_opcode < n → inputs n ≡ 0
 unfolding inputs
-past-inputs n h = ap (λ row. row.2) (past_last n h)
+past_inputs n h = ap (λ row. row.2) (past_last n h)
 
 past_place : (place k : ℕ) → last_opcode < k → has_place k place ≡ false
 unfolding has_place
-past_place place k h = rw (past-outputs k h, past-inputs k h) (by place)
+past_place place k h = rw (past_outputs k h, past_inputs k h) (by place)
   where
     by : (p : ℕ) → cond (eqb p 0) (leb 1 0) (leb p 0) ≡ false
     by zero = refl
@@ -77,7 +77,7 @@ past_place place k h = rw (past-outputs k h, past-inputs k h) (by place)
 pub no_place : (k place : ℕ) → most_inputs < place → has_place k place ≡ false
 unfolding has_place inputs opcodes
 no_place k place h =
-    let few = few-inputs k last_opcode most_inputs opcodes refl in
+    let few = few_inputs k last_opcode most_inputs opcodes refl in
     rw (ne_eqb place 0 (λ e. omega arith)) (lt-leb place (inputs k) (omega (arith, few)))
 
 -- ---- sets of opcodes
@@ -88,9 +88,9 @@ flag_one true = refl
 flag_one false = refl
 
 -- a bit that counts more than the number
-pub no-bit : (v k n : ℕ) → v < 2 ^ n → n ≤ k → digit 2 v k ≡ 0
+pub no_bit : (v k n : ℕ) → v < 2 ^ n → n ≤ k → digit 2 v k ≡ 0
 unfolding digit
-no-bit v k n small h = rw (div-eq_of_lt (lt_of_lt_of_le small (pow-le-pow_right {n = 2} (lit< tt) h))) refl
+no_bit v k n small h = rw (div-eq_of_lt (lt_of_lt_of_le small (pow-le-pow_right {n = 2} (lit< tt) h))) refl
 
 -- two tables of the same numbers
 same_tables : (f g : ℕ → ℕ) (n : ℕ) → tabulate n f ≡ tabulate n g → (k : ℕ) → k < n → f k ≡ g k
@@ -103,7 +103,7 @@ set_tells set g small past same k = by (ltb k 64) refl
   where
     by : (t : Bool) → ltb k 64 ≡ t → eqb (digit 2 set k) 1 ≡ g k
     by true e = rw (same_tables (λ n. digit 2 set n) (λ n. flag (g n)) 64 same k (ltb-true k 64 e)) (flag_one (g k))
-    by false e = let h = ltb-false k 64 e in rw (past k (omega arith), no-bit set k 64 small h) refl
+    by false e = let h = ltb-false k 64 e in rw (past k (omega arith), no_bit set k 64 small h) refl
 
 -- the operations that have a varnode at a place
 set_place : (set place : ℕ) → set < 2 ^ 64 → tabulate 64 (λ k. digit 2 set k) ≡ tabulate 64 (λ k. flag (has_place k place))

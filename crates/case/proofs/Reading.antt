@@ -25,21 +25,21 @@ pub read_none : {r : Reader} {line m ls ws : List ℕ} (k : Option (List ℕ)) �
 read_none {r} {line} {m} {ls} {ws} k s h =
     record { so_far = record { text = []; fits = s.fits line m ls ws h; read = s.read line m ls ws }; taken = consumes_none k }
 
-pub read-part : {part : List ℕ} {r q : Reader} {line m ls ws line' m' ls' ws' : List ℕ} {a b d : Option (List ℕ)} → ReadOf a b r line m ls ws
+pub read_part : {part : List ℕ} {r q : Reader} {line m ls ws line' m' ls' ws' : List ℕ} {a b d : Option (List ℕ)} → ReadOf a b r line m ls ws
     → Consumes b d part → Advanced part r line m ls ws q line' m' ls' ws' → ReadOf a d q line' m' ls' ws'
-read-part {part} {a = a} {b = b} {d = d} h k p =
+read_part {part} {a = a} {b = b} {d = d} h k p =
     record {
       so_far = record { text = h.so_far.text ++ part; fits = p.fits; read = p.read h.so_far.text h.so_far.read };
       taken = consumes_more a b d h.so_far.text part h.taken k;
     }
 
 -- at the end of the stream it is the whole stream
-pub read-whole : {r : Reader} {line m ls ws : List ℕ} (a b d : Option (List ℕ)) → ReadOf a b r line m ls ws → Consumes b d [] → IsAtEnd d
+pub read_whole : {r : Reader} {line m ls ws : List ℕ} (a b d : Option (List ℕ)) → ReadOf a b r line m ls ws → Consumes b d [] → IsAtEnd d
     → IfSome a (ReadWhole (record { failed = false; reader = r }) line m ls ws)
-read-whole None b d h k e = tt
-read-whole (Some xs) None d h k e = absurd h.taken
-read-whole (Some xs) (Some ys) None h k e = absurd k
-read-whole {r} {line} {m} {ls} {ws} (Some xs) (Some ys) (Some zs) h k e =
+read_whole None b d h k e = tt
+read_whole (Some xs) None d h k e = absurd h.taken
+read_whole (Some xs) (Some ys) None h k e = absurd k
+read_whole {r} {line} {m} {ls} {ws} (Some xs) (Some ys) (Some zs) h k e =
     let t : xs ≡ h.so_far.text ++ [] = h.taken ∙ ap (λ (l : List ℕ). h.so_far.text ++ l) (k ∙ e) in
     let whole : xs ≡ h.so_far.text = t ∙ append-nil h.so_far.text in
     λ _. rw whole h.so_far.read

@@ -30,30 +30,30 @@ printed_rest n c [] e z = absurd (z (omega (arith, e)))
 printed_rest n c (b ∷ s) e z = refl
 
 module _ (text : List ℕ) (r : Reader) (line m ls ws : List ℕ) (f : ReaderFits r line m ls ws) (h : HasRead text r line m ls ws) where
-  read-printed : output_of text ≡ printed (rest_of [] text) r.number (progress_in r.stage m ls ws)
+  read_printed : output_of text ≡ printed (rest_of [] text) r.number (progress_in r.stage m ls ws)
   unfolding output_of printed_after
-  read-printed = ap (printed_after (rest_of [] text)) (sym h.lines)
+  read_printed = ap (printed_after (rest_of [] text)) (sym h.lines)
 
   module _ {before after : List ℕ} {n : ℕ} where
     by : {t : List ℕ} → output_of text ≡ t → Appended 0 before t n after → Appended 0 before (output_of text) n after
     by e p = rw e p
 
-    pub nothing-printed : r.stage ≡ Nothing → {k : ℕ} → k ≡ next_number r.number → Appended 0 before (bad_text k) n after
+    pub nothing_printed : r.stage ≡ Nothing → {k : ℕ} → k ≡ next_number r.number → Appended 0 before (bad_text k) n after
         → Appended 0 before (output_of text) n after
     unfolding progress_in printed
-    nothing-printed e k p = by (read-printed ∙ rw (e, ← k)) p
+    nothing_printed e k p = by (read_printed ∙ rw (e, ← k)) p
 
-    pub bad-printed : {k : ℕ} → r.stage ≡ BadLine k → Appended 0 before (bad_text k) n after → Appended 0 before (output_of text) n after
+    pub bad_printed : {k : ℕ} → r.stage ≡ BadLine k → Appended 0 before (bad_text k) n after → Appended 0 before (output_of text) n after
     unfolding progress_in printed
-    bad-printed e p = by (read-printed ∙ rw e) p
+    bad_printed e p = by (read_printed ∙ rw e) p
 
     pub run-printed : {d : Header} → r.stage ≡ Reading d → r.have ≡ 0 → Appended 0 before (outcome_text (outcome (case_in d m ls ws))) n after
         → Appended 0 before (output_of text) n after
     unfolding progress_in
-    run-printed {d} e z p = by (read-printed ∙ rw e (printed_whole r.number (case_in d m ls ws) (rest_of [] text) (have_of text r line m ls ws f h) z)) p
+    run-printed {d} e z p = by (read_printed ∙ rw e (printed_whole r.number (case_in d m ls ws) (rest_of [] text) (have_of text r line m ls ws f h) z)) p
 
-    pub rest-printed : {d : Header} → r.stage ≡ Reading d → (r.have ≡ 0 → ⊥) → {k : ℕ} → k ≡ next_number r.number → Appended 0 before (bad_text k) n after
+    pub rest_printed : {d : Header} → r.stage ≡ Reading d → (r.have ≡ 0 → ⊥) → {k : ℕ} → k ≡ next_number r.number → Appended 0 before (bad_text k) n after
         → Appended 0 before (output_of text) n after
     unfolding progress_in
-    rest-printed {d} e z k p =
-        by (read-printed ∙ rw (e, k) (printed_rest r.number (case_in d m ls ws) (rest_of [] text) (have_of text r line m ls ws f h) z)) p
+    rest_printed {d} e z k p =
+        by (read_printed ∙ rw (e, k) (printed_rest r.number (case_in d m ls ws) (rest_of [] text) (have_of text r line m ls ws f h) z)) p

@@ -80,9 +80,9 @@ length_space kind space s =
 -- ---- how far they reach, and that what is lent keeps its length
 
 module _ {at : ℕ} {o : List ℕ} {r : ℕ} {o₁ : List ℕ} where
-  pub past-concatenated : (m i : ℕ) (f : ℕ → List ℕ) → ((k : ℕ) → length (f k) ≤ m) → Appended at o (concatenated i f) r o₁
+  pub past_concatenated : (m i : ℕ) (f : ℕ → List ℕ) → ((k : ℕ) → length (f k) ≤ m) → Appended at o (concatenated i f) r o₁
       → (r ≤ at + m * i) × (length o₁ ≡ length o)
-  past-concatenated m i f most put = past put (m * i) (concatenated_most m i f most)
+  past_concatenated m i f most put = past put (m * i) (concatenated_most m i f most)
 
   pub past_decimal : (k n : ℕ) → Appended at o (decimal_text k n) r o₁ → (r ≤ at + k) × (length o₁ ≡ length o)
   past_decimal k n put = past put k (length_decimal k n)

@@ -23,7 +23,7 @@ up_to s from to e = by (leb (from + bytes_per_line) (length s)) refl
         let shorter : length s < from + bytes_per_line = leb-false _ _ h in
         take_all (to - from) (drop from s) (rw length-drop (omega arith)) ∙ sym (take_all bytes_per_line (drop from s) (rw length-drop (omega arith)))
 
-pub line-part : (s : List ℕ) (k to : ℕ) → to ≡ min (bytes_per_line * k + bytes_per_line) (length s)
+pub line_part : (s : List ℕ) (k to : ℕ) → to ≡ min (bytes_per_line * k + bytes_per_line) (length s)
     → take (to - bytes_per_line * k) (drop (bytes_per_line * k) s) ≡ line_bytes s k
 unfolding line_bytes
-line-part s k to e = up_to s (bytes_per_line * k) to e
+line_part s k to e = up_to s (bytes_per_line * k) to e

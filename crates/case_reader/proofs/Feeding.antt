@@ -24,7 +24,7 @@ use Rattle.case_reader.specs.Buffers.{memory_in, case_in, progress_in, Fits, Sou
 use Rattle.case_reader.specs.declared.line.Header.{Header}
 use Rattle.case_reader.specs.declared.line.Stage.{Stage}
 use Rattle.case_reader.specs.declared.line.Stage.TheVariants.{Nothing, Reading, BadLine}
-use Rattle.case_reader.proofs.Storage.{memory-zeros, space-length, memory-stored}
+use Rattle.case_reader.proofs.Storage.{memory_zeros, space_length, memory_stored}
 
 -- a bad line leaves the buffers as they were
 bad_line : (n : ℕ) (s : List ℕ) (g : Stage) (m ls ws : List ℕ) → Sound g m ls ws → Progress.bad_line n ≡ after_line n s (progress_in g m ls ws)
@@ -68,7 +68,7 @@ module _ (n : ℕ) (s : List ℕ) {f : Frame} (e : f ≡ frame_of s) (m ls ws : 
           stage_fits = record { lengths = fits; operations = omega arith };
         };
         same =
-            rw (← e, k, g, memory-zeros l fits m h.memory_room h.stage_fits.0, memory-zeros l fits ls h.label_room h.stage_fits.1);
+            rw (← e, k, g, memory_zeros l fits m h.memory_room h.stage_fits.0, memory_zeros l fits ls h.label_room h.stage_fits.1);
       }
 
 -- ---- the other lines
@@ -118,7 +118,7 @@ module _ (n : ℕ) (s : List ℕ) {f : Frame} (e : f ≡ frame_of s) (d : Header
 
     extent : (b : List ℕ) → length b ≡ spaces_room → in_space (memory_in d.lengths b) space offset count ≡ leb (offset + count) (length_of d.lengths space)
     unfolding in_space
-    extent b r = ap (leb (offset + count)) (space-length d.lengths h.stage_fits.lengths b r space)
+    extent b r = ap (leb (offset + count)) (space_length d.lengths h.stage_fits.lengths b r space)
 
     outside : leb (offset + count) (length_of d.lengths space) ≡ false → (b : Bool)
         → line_added n s (Bytes b space offset count) (case_in d m ls ws) ≡ Progress.bad_line n
@@ -156,7 +156,7 @@ module _ (n : ℕ) (s : List ℕ) {f : Frame} (e : f ≡ frame_of s) (d : Header
 
       storing : (b : List ℕ) → length b ≡ spaces_room → memory_in d.lengths (sets b ((space - 2) * most_case_bytes + offset) (bytes_on count s))
           ≡ stored (memory_in d.lengths b) space offset (bytes_on count s)
-      storing b r = memory-stored d.lengths h.stage_fits.lengths b r space offset (bytes_on count s) inside.low inside.high fits_in
+      storing b r = memory_stored d.lengths h.stage_fits.lengths b r space offset (bytes_on count s) inside.low inside.high fits_in
 
       pub fed_memory : of-labels ≡ false → {place : ℕ} → place ≡ (space - 2) * most_case_bytes + offset → {m' : List ℕ} → m' ≡ sets m place (bytes_on count s)
           → Fed n s (Reading d) m ls ws (Reading d) m' ls ws

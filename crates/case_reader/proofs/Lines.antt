@@ -115,8 +115,8 @@ module _ (text : List ℕ) (r : Reader) (line m ls ws : List ℕ) (f : ReaderFit
         lines = other_lines e;
       }
 
-  byte-dropped : (b ≡ newline → ⊥) → line_room ≤ r.have → HasRead (text ++ (b ∷ [])) r line m ls ws
-  byte-dropped e k =
+  byte_dropped : (b ≡ newline → ⊥) → line_room ≤ r.have → HasRead (text ++ (b ∷ [])) r line m ls ws
+  byte_dropped e k =
       let many : line_room ≤ length (rest_of [] text) = omega (arith, have_of text r line m ls ws f h, k) in
       record {
         rest = rw (rest_more [] text b, ne_eqb b newline e) (h.rest ∙ sym (take-append-le line_room (rest_of [] text) (b ∷ []) many));
@@ -126,10 +126,10 @@ module _ (text : List ℕ) (r : Reader) (line m ls ws : List ℕ) (f : ReaderFit
 -- ---- a byte, and a part byte by byte, as the reader's promise
 
 module _ (r : Reader) (line m ls ws : List ℕ) (f : ReaderFits r line m ls ws) (b : ℕ) where
-  pub pushed-newline : b ≡ newline → {number : ℕ} → number ≡ next_number r.number → {g : Stage} {m' ls' ws' : List ℕ}
+  pub pushed_newline : b ≡ newline → {number : ℕ} → number ≡ next_number r.number → {g : Stage} {m' ls' ws' : List ℕ}
       → Fed number (take r.have line) r.stage m ls ws g m' ls' ws'
       → Advanced (b ∷ []) r line m ls ws (record { have = 0; number = number; stage = g }) line m' ls' ws'
-  pushed-newline e k d =
+  pushed_newline e k d =
       record {
         fits = record { room = f.room; have = omega arith; sound = d.sound };
         read = λ text h. newline_read text r line m ls ws f h b e k d;
@@ -144,7 +144,7 @@ module _ (r : Reader) (line m ls ws : List ℕ) (f : ReaderFits r line m ls ws) 
       }
 
   pub pushed_past : (b ≡ newline → ⊥) → line_room ≤ r.have → Advanced (b ∷ []) r line m ls ws r line m ls ws
-  pushed_past e k = record { fits = f; read = λ text h. byte-dropped text r line m ls ws f h b e k }
+  pushed_past e k = record { fits = f; read = λ text h. byte_dropped text r line m ls ws f h b e k }
 
 pub read_none : (r : Reader) (line m ls ws : List ℕ) → ReaderFits r line m ls ws → Advanced [] r line m ls ws r line m ls ws
 read_none r line m ls ws f = record { fits = f; read = λ text h. rw append-nil h }

@@ -17,10 +17,10 @@ use Rattle.case_reader.specs.Buffers.{memory_in, Zeros, Fits}
 
 -- ---- stores and parts of a list
 
-take-sets_in : (n : ℕ) (l : List ℕ) (i : ℕ) (vs : List ℕ) → i + length vs ≤ n → take n (sets l i vs) ≡ sets (take n l) i vs
-take-sets_in n l i [] h = refl
-take-sets_in n l i (v ∷ vs) h =
-    take-sets_in n (set l i v) (suc i) vs (omega arith) ∙ ap (λ x. sets x (suc i) vs) (take-set-lt n l i v (omega arith))
+take_sets_in : (n : ℕ) (l : List ℕ) (i : ℕ) (vs : List ℕ) → i + length vs ≤ n → take n (sets l i vs) ≡ sets (take n l) i vs
+take_sets_in n l i [] h = refl
+take_sets_in n l i (v ∷ vs) h =
+    take_sets_in n (set l i v) (suc i) vs (omega arith) ∙ ap (λ x. sets x (suc i) vs) (take-set-lt n l i v (omega arith))
 
 take-sets-before : (n : ℕ) (l : List ℕ) (i : ℕ) (vs : List ℕ) → n ≤ i → take n (sets l i vs) ≡ take n l
 take-sets-before n l i [] h = refl
@@ -30,11 +30,11 @@ drop-sets-after : (n : ℕ) (l : List ℕ) (i : ℕ) (vs : List ℕ) → i + len
 drop-sets-after n l i [] h = refl
 drop-sets-after n l i (v ∷ vs) h = drop-sets-after n (set l i v) (suc i) vs (omega arith) ∙ drop-set-lt n l i v (omega arith)
 
-drop-sets_in : (n : ℕ) (l : List ℕ) (i : ℕ) (vs : List ℕ) → drop n (sets l (n + i) vs) ≡ sets (drop n l) i vs
-drop-sets_in n l i [] = refl
-drop-sets_in n l i (v ∷ vs) =
+drop_sets_in : (n : ℕ) (l : List ℕ) (i : ℕ) (vs : List ℕ) → drop n (sets l (n + i) vs) ≡ sets (drop n l) i vs
+drop_sets_in n l i [] = refl
+drop_sets_in n l i (v ∷ vs) =
     ap (λ k. drop n (sets (set l (n + i) v) k vs)) (sym (add-suc n i))
-    ∙ drop-sets_in n (set l (n + i) v) (suc i) vs
+    ∙ drop_sets_in n (set l (n + i) v) (suc i) vs
     ∙ ap (λ x. sets x (suc i) vs) (drop-set-add n l i v)
 
 -- a part that ends before the stores begin
@@ -42,7 +42,7 @@ take-drop-sets : (n : ℕ) (l : List ℕ) (i : ℕ) (vs : List ℕ) (k : ℕ) �
 take-drop-sets n l i vs k h =
     let e : n + (i - n) ≡ i = omega arith in
     ap (λ j. take k (drop n (sets l j vs))) (sym e)
-    ∙ ap (take k) (drop-sets_in n l (i - n) vs)
+    ∙ ap (take k) (drop_sets_in n l (i - n) vs)
     ∙ take-sets-before k (drop n l) (i - n) vs (omega arith)
 
 -- ---- zeros
@@ -94,7 +94,7 @@ module _ (room : ℕ) (l : Lengths) (u : l.unique ≤ room) (g : l.register ≤ 
       let e : (2 - 2) * room + offset ≡ offset = omega arith in
       rw (
         e,
-        take-sets_in l.unique b offset bs h,
+        take_sets_in l.unique b offset bs h,
         drop-sets-after room b offset bs (omega arith),
         drop-sets-after (2 * room) b offset bs (omega arith),
       )
@@ -103,8 +103,8 @@ module _ (room : ℕ) (l : Lengths) (u : l.unique ≤ room) (g : l.register ≤ 
       rw (
         e,
         take-sets-before l.unique b (room + offset) bs (omega arith),
-        drop-sets_in room b offset bs,
-        take-sets_in l.register (drop room b) offset bs h,
+        drop_sets_in room b offset bs,
+        take_sets_in l.register (drop room b) offset bs h,
         drop-sets-after (2 * room) b (room + offset) bs (omega arith),
       )
   stored_by (suc (suc (suc (suc zero)))) offset bs low high h =
@@ -112,8 +112,8 @@ module _ (room : ℕ) (l : Lengths) (u : l.unique ≤ room) (g : l.register ≤ 
       rw (
         e,
         take-sets-before l.unique b (2 * room + offset) bs (omega arith),
-        drop-sets_in (2 * room) b offset bs,
-        take-sets_in l.ram (drop (2 * room) b) offset bs h,
+        drop_sets_in (2 * room) b offset bs,
+        take_sets_in l.ram (drop (2 * room) b) offset bs h,
         take-drop-sets room b (2 * room + offset) bs l.register (omega arith),
       )
   stored_by (suc (suc (suc (suc (suc n))))) offset bs low high h = absurd (let z : ⊥ = omega arith in z)
@@ -121,24 +121,24 @@ module _ (room : ℕ) (l : Lengths) (u : l.unique ≤ room) (g : l.register ≤ 
 -- ---- with room for the largest space
 
 module _ (l : Lengths) (fits : Fits l) (b : List ℕ) (whole : length b ≡ spaces_room) where
-  pub memory-zeros : Zeros b → memory_in l b ≡ zeros l
+  pub memory_zeros : Zeros b → memory_in l b ≡ zeros l
   unfolding memory_in
-  memory-zeros z = zeros_by most_case_bytes l fits.unique fits.register fits.ram b whole z
+  memory_zeros z = zeros_by most_case_bytes l fits.unique fits.register fits.ram b whole z
 
-  pub space-length : (space : ℕ) → length (space_of (memory_in l b) space) ≡ length_of l space
+  pub space_length : (space : ℕ) → length (space_of (memory_in l b) space) ≡ length_of l space
   unfolding memory_in
-  space-length space = length_by most_case_bytes l fits.unique fits.register fits.ram b whole space
+  space_length space = length_by most_case_bytes l fits.unique fits.register fits.ram b whole space
 
-  pub memory-stored : (space offset : ℕ) (bs : List ℕ) → 2 ≤ space → space ≤ 4 → offset + length bs ≤ length_of l space
+  pub memory_stored : (space offset : ℕ) (bs : List ℕ) → 2 ≤ space → space ≤ 4 → offset + length bs ≤ length_of l space
       → memory_in l (sets b ((space - 2) * most_case_bytes + offset) bs) ≡ stored (memory_in l b) space offset bs
   unfolding memory_in
-  memory-stored space offset bs low high h = stored_by most_case_bytes l fits.unique fits.register fits.ram b whole space offset bs low high h
+  memory_stored space offset bs low high h = stored_by most_case_bytes l fits.unique fits.register fits.ram b whole space offset bs low high h
 
 -- a new buffer
-pub new-zeros : (n : ℕ) → Zeros (replicate n 0)
-new-zeros zero i = refl
-new-zeros (suc n) zero = refl
-new-zeros (suc n) (suc i) = new-zeros n i
+pub new_zeros : (n : ℕ) → Zeros (replicate n 0)
+new_zeros zero i = refl
+new_zeros (suc n) zero = refl
+new_zeros (suc n) (suc i) = new_zeros n i
 
 -- spaces that keep their lengths still fit
 pub kept_fits : (u g m u' g' m' : List ℕ) → Fits (lengths_of (spaces u g m)) → length u' ≡ length u → length g' ≡ length g → length m' ≡ length m

@@ -14,7 +14,7 @@ use Rattle.machine.specs.Memory.{Memory, spaces, lengths_of}
 use Rattle.machine.specs.Calls.{Outcome, labelled_outcome, labelled_run}
 use Rattle.machine.specs.Counts.{counts_fit, CountedOutcome, counted_outcome, counted_run}
 use Rattle.machine.proofs.Limits.{limits}
-use Rattle.machine.proofs.Recounts.{counts_of-labelled_runs}
+use Rattle.machine.proofs.Recounts.{counts_of_labelled_runs}
 use Rattle.case_printing.specs.Appended.{Appended}
 use Rattle.case_printing.specs.Outcome.{outcome_text}
 use Rattle.case_reader.specs.Limits.{most_case_bytes, log_words, start_index, counts_room}
@@ -33,12 +33,12 @@ unfolding counts_fit lengths_of
 counts_enough m f = rw (enough (length m.unique) f.unique, enough (length m.register) f.register, enough (length m.ram) f.ram) refl
 
 -- with these counts it is the labelled run
-pub as-labelled : (settings : Settings) (list : List ℕ) (budget : ℕ) (labels m : Memory) {report : Report} {m' labels' counts' : Memory} {log' : List ℕ} → Fits (lengths_of m)
+pub as_labelled : (settings : Settings) (list : List ℕ) (budget : ℕ) (labels m : Memory) {report : Report} {m' labels' counts' : Memory} {log' : List ℕ} → Fits (lengths_of m)
     → counted_outcome report m' labels' counts' log' ≡ counted_run settings list start_index budget (replicate log_words 0) labels m no_counts
     → labelled_outcome report m' labels' log' ≡ labelled_run settings list start_index budget (replicate log_words 0) labels m
-as-labelled settings list budget labels m f e =
+as_labelled settings list budget labels m f e =
     ap (λ (o : CountedOutcome). o.outcome) e
-    ∙ (counts_of-labelled_runs settings list start_index budget (replicate log_words 0) labels m no_counts).others (counts_enough m f)
+    ∙ (counts_of_labelled_runs settings list start_index budget (replicate log_words 0) labels m no_counts).others (counts_enough m f)
 
 -- the log words written have their place in the log
 pub logged_in : (settings : Settings) (list : List ℕ) (budget : ℕ) (labels m : Memory) {report : Report} {m' labels' : Memory} {log' : List ℕ}

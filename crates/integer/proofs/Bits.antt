@@ -12,12 +12,12 @@ use Rattle.integer.specs.Operations.{popcount, int_negate, int_xor, int_and, int
 
 -- ---- POPCOUNT: the language's count of ones is the count bit by bit
 
-ones-zero : ones 0 ≡ 0
+ones_zero : ones 0 ≡ 0
 unfolding ones
-ones-zero = refl
+ones_zero = refl
 
 ones_bit : (b : ℕ) → b < 2 → ones b ≡ b % 2
-ones_bit b h = let z : b / 2 ≡ 0 = omega arith in ones_step b ∙ rw (z, ones-zero) (add-zero (b % 2))
+ones_bit b h = let z : b / 2 ≡ 0 = omega arith in ones_step b ∙ rw (z, ones_zero) (add-zero (b % 2))
 
 bit_low : (k j x : ℕ) → k < j → (x % 2 ^ j) / 2 ^ k % 2 ≡ x / 2 ^ k % 2
 bit_low k j x h =
@@ -27,20 +27,20 @@ bit_low k j x h =
     e : ((j - suc k) + 1) + k ≡ j
     e = omega arith
 
-ones-sum : (k x : ℕ) → x < 2 ^ k → ones x ≡ sum k (λ j. digit 2 x j)
+ones_sum : (k x : ℕ) → x < 2 ^ k → ones x ≡ sum k (λ j. digit 2 x j)
 unfolding sum digit
-ones-sum zero x h = let z : x ≡ 0 = omega arith in rw (z, ones-zero)
-ones-sum (suc k) x h =
+ones_sum zero x h = let z : x ≡ 0 = omega arith in rw (z, ones_zero)
+ones_sum (suc k) x h =
     ap ones (sym (split x k))
     ∙ ones_cat k (x / 2 ^ k) (x % 2 ^ k) (mod-lt x (pow_pos k))
     ∙ ap₂ (λ (a b : ℕ). a + b) (ones_bit (x / 2 ^ k) (shr_lt 1 k (subst (λ (n : ℕ). x < 2 ^ n) (sym (one-add k)) h)))
-    (ones-sum k (x % 2 ^ k) (mod-lt x (pow_pos k))
+    (ones_sum k (x % 2 ^ k) (mod-lt x (pow_pos k))
     ∙ sum_cong k (λ j. x % 2 ^ k / 2 ^ j % 2) (λ j. x / 2 ^ j % 2) (λ j l. bit_low j k x l))
     ∙ add_comm (x / 2 ^ k % 2) (sum k (λ j. x / 2 ^ j % 2))
 
 pub popcount_is : (s a : ℕ) → a < 256 ^ s → ones a ≡ popcount s a
 unfolding popcount
-popcount_is s a h = ones-sum (8 * s) a (rw pow_bits at h)
+popcount_is s a h = ones_sum (8 * s) a (rw pow_bits at h)
 
 -- ---- INT_NEGATE
 
@@ -49,14 +49,14 @@ unfolding sum
 all_ones zero = refl
 all_ones (suc n) = omega (arith, all_ones n, pow_pos n)
 
-flip-bit : (x p : ℕ) → x < 2 → x * p + (1 - x) * p ≡ p
-flip-bit x p h = let e : x + (1 - x) ≡ 1 = omega arith in sym (add-mul x (1 - x) p) ∙ rw e (one-mul p)
+flip_bit : (x p : ℕ) → x < 2 → x * p + (1 - x) * p ≡ p
+flip_bit x p h = let e : x + (1 - x) ≡ 1 = omega arith in sym (add-mul x (1 - x) p) ∙ rw e (one-mul p)
 
 flipped : (n a : ℕ) → a < 2 ^ n → a + sum n (λ k. (1 - digit 2 a k) * 2 ^ k) ≡ 2 ^ n - 1
 flipped n a h =
     ap (λ (x : ℕ). x + sum n (λ k. (1 - digit 2 a k) * 2 ^ k)) (sym (digits_sum 2 (lit< tt) n a ∙ mod-eq_of_lt h))
     ∙ sym (sum-add n (λ k. digit 2 a k * 2 ^ k) (λ k. (1 - digit 2 a k) * 2 ^ k))
-    ∙ sum_cong n (λ k. digit 2 a k * 2 ^ k + (1 - digit 2 a k) * 2 ^ k) (λ k. 2 ^ k) (λ k l. flip-bit (digit 2 a k) (2 ^ k) (digit_lt 2 (lit< tt) a k))
+    ∙ sum_cong n (λ k. digit 2 a k * 2 ^ k + (1 - digit 2 a k) * 2 ^ k) (λ k. 2 ^ k) (λ k l. flip_bit (digit 2 a k) (2 ^ k) (digit_lt 2 (lit< tt) a k))
     ∙ all_ones n
 
 pub negate_is : (s a top : ℕ) → a < 256 ^ s → top ≡ 256 ^ s - 1 → top - a ≡ int_negate s a

@@ -9,10 +9,10 @@ unfolding xor
 xor_false true = refl
 xor_false false = refl
 
-pub xor_true-not : (t : Bool) → xor true (not t) ≡ t
+pub xor_true_not : (t : Bool) → xor true (not t) ≡ t
 unfolding xor
-xor_true-not true = refl
-xor_true-not false = refl
+xor_true_not true = refl
+xor_true_not false = refl
 
 pub or_false : (t : Bool) → t || false ≡ t
 or_false true = refl

@@ -25,9 +25,9 @@ remainder_is (negsuc a) q = refl
 
 -- ---- quotient times divisor plus remainder is the dividend
 
-neg-mul : (n : ℕ) (k : ℤ) → neg_ℤ (pos n) *ℤ k ≡ neg_ℤ (pos n *ℤ k)
-neg-mul zero k = rw zero-*ℤ
-neg-mul (suc n) k = *ℤ_comm (negsuc n) k ∙ *ℤ-negsuc k n ∙ ap neg_ℤ (*ℤ_comm k (pos (suc n)))
+neg_mul : (n : ℕ) (k : ℤ) → neg_ℤ (pos n) *ℤ k ≡ neg_ℤ (pos n *ℤ k)
+neg_mul zero k = rw zero-*ℤ
+neg_mul (suc n) k = *ℤ_comm (negsuc n) k ∙ *ℤ-negsuc k n ∙ ap neg_ℤ (*ℤ_comm k (pos (suc n)))
 
 divided_neg : (n d : ℕ) → neg_ℤ (pos (n / d * d)) +ℤ neg_ℤ (pos (n % d)) ≡ neg_ℤ (pos n)
 divided_neg n d = sym (neg_ℤ-+ℤ (pos (n / d * d)) (pos (n % d))) ∙ ap (λ (k : ℕ). neg_ℤ (pos k)) (div-add-mod' n d)
@@ -35,8 +35,8 @@ divided_neg n d = sym (neg_ℤ-+ℤ (pos (n / d * d)) (pos (n % d))) ∙ ap (λ 
 pub divided : (p q : ℤ) → quotient p q *ℤ q +ℤ remainder p q ≡ p
 unfolding quotient remainder with_sign negative xor
 divided (pos a) (pos b) = ap pos (div-add-mod' a b)
-divided (pos a) (negsuc b) = rw (neg-mul, neg_ℤ-neg_ℤ) (ap pos (div-add-mod' a (suc b)))
-divided (negsuc a) (pos b) = rw neg-mul (divided_neg (suc a) b)
+divided (pos a) (negsuc b) = rw (neg_mul, neg_ℤ-neg_ℤ) (ap pos (div-add-mod' a (suc b)))
+divided (negsuc a) (pos b) = rw neg_mul (divided_neg (suc a) b)
 divided (negsuc a) (negsuc b) = divided_neg (suc a) (suc b)
 
 -- ---- what an i64 holds
@@ -80,10 +80,10 @@ signed_nonzero s x hx h0 z = by (ltb (2 * x) (256 ^ s)) refl
         let v : ◌≡◌ {A = ℕ} 0 1 = cc in
         omega arith
 
-pub no-remainder : (z : ℤ) → remainder z (negsuc 0) ≡ pos 0
+pub no_remainder : (z : ℤ) → remainder z (negsuc 0) ≡ pos 0
 unfolding remainder with_sign negative
-no-remainder (pos n) = ap pos (mod-one n)
-no-remainder (negsuc n) = ap (λ (k : ℕ). neg_ℤ (pos k)) (mod-one (suc n))
+no_remainder (pos n) = ap pos (mod-one n)
+no_remainder (negsuc n) = ap (λ (k : ℕ). neg_ℤ (pos k)) (mod-one (suc n))
 
 -- ---- the code's division, p and q being the values of a and b
 
@@ -116,7 +116,7 @@ module _ (s a b : ℕ) (p q : ℤ) (fp : SFits w64 p) (fq : SFits w64 q) (ep : p
   pub srem_by_minus_one : of_z w64 q ≡ 18446744073709551615 → 0 ≡ int_srem s a b
   unfolding int_srem wrap
   srem_by_minus_one h =
-      sym (ap (λ (k : ℤ). wrap s k) (ap (λ (k : ℤ). remainder (signed s a) k) (minus_one h) ∙ no-remainder (signed s a)) ∙ zero-mod (256 ^ s))
+      sym (ap (λ (k : ℤ). wrap s k) (ap (λ (k : ℤ). remainder (signed s a) k) (minus_one h) ∙ no_remainder (signed s a)) ∙ zero-mod (256 ^ s))
 
   -- the least i64 by -1 is the least value of size 8
   pub sdiv_least : s ≤ 8 → a < 256 ^ s → of_z w64 q ≡ 18446744073709551615 → of_z w64 p ≡ 9223372036854775808 → a ≡ int_sdiv s a b

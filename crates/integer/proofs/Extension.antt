@@ -30,10 +30,10 @@ module _ (size size0 a : ℕ) (some : 1 ≤ size0) (larger : size0 < size) (belo
       let e : 8 * size ≡ 8 * (size - size0) + 8 * size0 = omega arith in
       rw (pow_bits size, pow_bits size0, pow_bits (size - size0), e) (high_ones (8 * (size - size0)) (8 * size0))
 
-  pub sext-digit : (k : ℕ) → k < size
+  pub sext_digit : (k : ℕ) → k < size
       → digit 256 (int_sext size size0 a) k ≡ cond (ltb k size0) (digit 256 a k) (cond (ltb (digit 256 a (size0 - 1)) 128) 0 255)
   unfolding negative
-  sext-digit k h = rw (manual.sign_fill size size0 a (omega arith) below) (by (ltb (2 * a) (256 ^ size0)) refl (ltb k size0) refl)
+  sext_digit k h = rw (manual.sign_fill size size0 a (omega arith) below) (by (ltb (2 * a) (256 ^ size0)) refl (ltb k size0) refl)
     where
       filled : ℕ
       filled = a + cond (negative (signed size0 a)) (256 ^ size - 256 ^ size0) 0

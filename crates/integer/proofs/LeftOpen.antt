@@ -8,7 +8,7 @@ use Rattle.integer.specs.Operations.{subpiece, int_left, int_right, int_sright, 
 use Rattle.integer.specs.LeftOpen.{LeftOpen}
 use Rattle.integer.proofs.Booleans.{flag_lt}
 use Rattle.integer.proofs.TwosComplement.{signed_high}
-use Rattle.integer.proofs.Division.{divided, no-remainder}
+use Rattle.integer.proofs.Division.{divided, no_remainder}
 use Rattle.integer.proofs.Overflow.{even}
 
 shift_by_width : (size a b : ℕ) → 8 * size ≤ b → (int_left size a b ≡ 0) × (int_right size a b ≡ 0)
@@ -54,15 +54,15 @@ module _ (size : ℕ) (h : 1 ≤ size) where
       signed_high size (256 ^ size - 1) (omega (arith, even size h, size_pos size)) (omega (arith, size_pos size))
       ∙ ap negsuc (omega arith)
 
-  least-quotient : int_sdiv size (256 ^ size / 2) (256 ^ size - 1) ≡ 256 ^ size / 2
+  least_quotient : int_sdiv size (256 ^ size / 2) (256 ^ size - 1) ≡ 256 ^ size / 2
   unfolding int_sdiv wrap quotient with_sign negative xor
-  least-quotient =
+  least_quotient =
       let e : suc (256 ^ size / 2 - 1) ≡ 256 ^ size / 2 = omega (arith, even size h, size_pos size) in
       rw (least, minus_one, div-one, e) (mod-eq_of_lt (omega (arith, even size h, size_pos size)))
 
-  least-remainder : int_srem size (256 ^ size / 2) (256 ^ size - 1) ≡ 0
+  least_remainder : int_srem size (256 ^ size / 2) (256 ^ size - 1) ≡ 0
   unfolding int_srem wrap
-  least-remainder = rw (minus_one, no-remainder) (zero-mod (256 ^ size))
+  least_remainder = rw (minus_one, no_remainder) (zero-mod (256 ^ size))
 
 -- ---- SUBPIECE
 
@@ -90,20 +90,20 @@ any_nonzero : (a b : ℕ) → 0 < a
 unfolding bool_negate bool_or bool_xor bool_and
 any_nonzero a b h = rw (true_of a h) (refl, refl, refl, refl, refl, refl, refl)
 
-zero-or_one : (a b : ℕ) → (bool_negate a < 2) × (bool_xor a b < 2) × (bool_and a b < 2) × (bool_or a b < 2)
+zero_or_one : (a b : ℕ) → (bool_negate a < 2) × (bool_xor a b < 2) × (bool_and a b < 2) × (bool_or a b < 2)
 unfolding bool_negate bool_or bool_xor bool_and
-zero-or_one a b = (flag_lt _, flag_lt _, flag_lt _, flag_lt _)
+zero_or_one a b = (flag_lt _, flag_lt _, flag_lt _, flag_lt _)
 
 pub left_open : LeftOpen
 left_open =
     record {
       shift_by_width = shift_by_width;
       sright_by_width = λ size a b h e. sright_by_width size a b false h e;
-      sright_of-negative = λ size a b h e. sright_by_width size a b true h e;
+      sright_of_negative = λ size a b h e. sright_by_width size a b true h e;
       truncates = truncates;
-      least_by_minus_one = λ size h. (least-quotient size h, least-remainder size h);
+      least_by_minus_one = λ size h. (least_quotient size h, least_remainder size h);
       drops_low_bytes = drops_low_bytes;
       missing_bytes = missing_bytes;
       any_nonzero = any_nonzero;
-      zero-or_one = zero-or_one;
+      zero_or_one = zero_or_one;
     }

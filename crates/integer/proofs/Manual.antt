@@ -94,11 +94,11 @@ manual = record {
   negation = λ size a h.
       let e : 256 ^ size - 1 - a + 1 ≡ 256 ^ size - a = omega arith in
       rw (wrap_opposite, wrap-signed, ← (negate_is size a (256 ^ size - 1) h refl), e);
-  shift_by-zero = λ size a hs h.
+  shift_by_zero = λ size a hs h.
       let l : ltb 0 (8 * size) ≡ true = lt-ltb 0 (8 * size) (omega arith) in
       (rw (l, mul-one) (mod-eq_of_lt h), rw (l, div-one), rw (l, unshifted) (wrap-signed size a h));
   sign_shifted = sign_shifted;
   product = λ size a b ha hb. simp (wrap-mul, wrap-signed);
   remainder = λ size a b h. rw (mod-add-mod, div-add-mod') (mod-eq_of_lt h);
-  signed-remainder = λ size a b ha hb. simp (wrap-add, wrap-mul, wrap-signed) at (ap (wrap size) (divided (signed size a) (signed size b)));
+  signed_remainder = λ size a b ha hb. simp (wrap-add, wrap-mul, wrap-signed) at (ap (wrap size) (divided (signed size a) (signed size b)));
 }

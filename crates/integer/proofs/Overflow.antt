@@ -38,13 +38,13 @@ even s h =
     let f : 256 ^ s ≡ 256 * 256 ^ (s - 1) = ap (λ (n : ℕ). 256 ^ n) e ∙ pow-succ' 256 (s - 1) in
     omega arith
 
-half-suc : (s : ℕ) → 1 ≤ s → 256 ^ s / 2 ≡ suc (256 ^ s / 2 - 1)
-half-suc s h = omega (arith, even s h, size_pos s)
+half_suc : (s : ℕ) → 1 ≤ s → 256 ^ s / 2 ≡ suc (256 ^ s / 2 - 1)
+half_suc s h = omega (arith, even s h, size_pos s)
 
 -- a difference overflows where it is half of 256^size or more, or less than minus that
 overflow_of : (s x y : ℕ) → 1 ≤ s → overflows s (pos x -ℤ pos y) ≡ leb (y + 256 ^ s / 2) x || ltb (x + 256 ^ s / 2) y
 unfolding overflows
-overflow_of s x y h = rw (half-suc s h) (by (256 ^ s / 2 - 1) (ltb x y) refl)
+overflow_of s x y h = rw (half_suc s h) (by (256 ^ s / 2 - 1) (ltb x y) refl)
   where
     by : (n : ℕ) (t : Bool) → ltb x y ≡ t
         → lt_z (pos x -ℤ pos y) (negsuc n) || le_z (pos (suc n)) (pos x -ℤ pos y) ≡ leb (y + suc n) x || ltb (x + suc n) y

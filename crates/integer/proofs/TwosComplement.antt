@@ -15,10 +15,10 @@ minus (suc m) = ap (λ (k : ℕ). negsuc (suc k)) (zero-add m)
 flip : (n : ℕ) → negsuc 0 -ℤ negsuc n ≡ pos n
 flip n = rw (le-ltb (suc n) 1 (omega arith)) (ap pos (omega arith))
 
-below-zero : (z : ℤ) → lt_z z (pos 0) ≡ negative z
+below_zero : (z : ℤ) → lt_z z (pos 0) ≡ negative z
 unfolding negative
-below-zero (pos n) = le-ltb n 0 (omega arith)
-below-zero (negsuc n) = refl
+below_zero (pos n) = le-ltb n 0 (omega arith)
+below_zero (negsuc n) = refl
 
 -- ---- the two halves of the numbers of a size
 
@@ -109,7 +109,7 @@ compared f x y p q fp fq ep eq = ap₂ f (to_z-of_z w64 p fp ∙ ep) (to_z-of_z 
 
 -- the test of a value's sign
 pub sign_test : (z x : ℤ) → SFits w64 z → z ≡ x → lt_z (to_z w64 (of_z w64 z)) (pos 0) ≡ negative x
-sign_test z x f e = ap (λ (k : ℤ). lt_z k (pos 0)) (to_z-of_z w64 z f ∙ e) ∙ below-zero x
+sign_test z x f e = ap (λ (k : ℤ). lt_z k (pos 0)) (to_z-of_z w64 z f ∙ e) ∙ below_zero x
 
 -- a value written back
 pub written : (s r : ℕ) (z x : ℤ) → SFits w64 z → z ≡ x → r ≡ wrap s (to_z w64 (of_z w64 z)) → r ≡ wrap s x

@@ -9,7 +9,7 @@ pub record LeftOpen : Type 0 where
   pub shift_by_width : (size a b : ℕ) → 8 * size ≤ b → (int_left size a b ≡ 0) × (int_right size a b ≡ 0)
   pub sright_by_width : (size a b : ℕ) → 8 * size ≤ b → negative (signed size a) ≡ false → int_sright size a b ≡ 0
   -- INT_SRIGHT gives all ones for a negative input0.
-  pub sright_of-negative : (size a b : ℕ) → 8 * size ≤ b → negative (signed size a) ≡ true → int_sright size a b ≡ 256 ^ size - 1
+  pub sright_of_negative : (size a b : ℕ) → 8 * size ≤ b → negative (signed size a) ≡ true → int_sright size a b ≡ 256 ^ size - 1
   -- Signed division truncates towards zero: what is left of p is smaller than q, and on the same side of zero as p;
   pub truncates : (p q : ℤ)
       → (quotient p q *ℤ q +ℤ remainder p q ≡ p) × (0 < unsigned_abs q → unsigned_abs (remainder p q) < unsigned_abs q)
@@ -26,4 +26,4 @@ pub record LeftOpen : Type 0 where
       → (bool_negate a ≡ bool_negate 1) × (bool_xor a b ≡ bool_xor 1 b) × (bool_xor b a ≡ bool_xor b 1)
       × (bool_and a b ≡ bool_and 1 b) × (bool_and b a ≡ bool_and b 1) × (bool_or a b ≡ bool_or 1 b) × (bool_or b a ≡ bool_or b 1)
   -- results are 0 or 1.
-  pub zero-or_one : (a b : ℕ) → (bool_negate a < 2) × (bool_xor a b < 2) × (bool_and a b < 2) × (bool_or a b < 2)
+  pub zero_or_one : (a b : ℕ) → (bool_negate a < 2) × (bool_xor a b < 2) × (bool_and a b < 2) × (bool_or a b < 2)

@@ -23,7 +23,7 @@ pub record Manual : Type 0 where
   -- INT_2COMP flips every bit of input0 and adds 1.
   pub negation : (size a : ℕ) → a < 256 ^ size → int2comp size a ≡ int_add size (int_negate size a) 1
   -- INT_LEFT, INT_RIGHT and INT_SRIGHT by 0 bits give input0.
-  pub shift_by-zero : (size a : ℕ) → 1 ≤ size → a < 256 ^ size → (int_left size a 0 ≡ a) × (int_right size a 0 ≡ a) × (int_sright size a 0 ≡ a)
+  pub shift_by_zero : (size a : ℕ) → 1 ≤ size → a < 256 ^ size → (int_left size a 0 ≡ a) × (int_right size a 0 ≡ a) × (int_sright size a 0 ≡ a)
   -- INT_SRIGHT fills the vacated bits with the sign bit of input0.
   pub sign_shifted : (size a b : ℕ) → b < 8 * size → a < 256 ^ size
       → int_sright size a b ≡ a / 2 ^ b + cond (negative (signed size a)) (2 ^ (8 * size) - 2 ^ (8 * size - b)) 0
@@ -32,4 +32,4 @@ pub record Manual : Type 0 where
   -- INT_DIV and INT_REM: quotient times input1 plus remainder is input0, by INT_MULT and INT_ADD.
   pub remainder : (size a b : ℕ) → a < 256 ^ size → int_add size (int_mult size (int_div a b) b) (int_rem a b) ≡ a
   -- INT_SDIV and INT_SREM: the same.
-  pub signed-remainder : (size a b : ℕ) → a < 256 ^ size → b < 256 ^ size → int_add size (int_mult size (int_sdiv size a b) b) (int_srem size a b) ≡ a
+  pub signed_remainder : (size a b : ℕ) → a < 256 ^ size → b < 256 ^ size → int_add size (int_mult size (int_sdiv size a b) b) (int_srem size a b) ≡ a

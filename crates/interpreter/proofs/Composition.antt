@@ -22,13 +22,13 @@ use Rattle.machine.specs.Recounts.{WordsOf, TurnedAll, SummedCounted}
 use Rattle.machine.proofs.Refusals.{refusal_refuses, refusal_report_lem, accepted}
 use Rattle.machine.proofs.Noninterference.{noninterference}
 use Rattle.machine.proofs.Resume.{plain_resumes}
-use Rattle.machine.proofs.Recounts.{counts_of-labelled_runs, counted_noninterference, counted_resumes, filling}
+use Rattle.machine.proofs.Recounts.{counts_of_labelled_runs, counted_noninterference, counted_resumes, filling}
 use Rattle.speculation.specs.Window.{window_mark}
 use Rattle.speculation.specs.Speculation.{Speculation, speculative_run}
 use Rattle.speculation.specs.Labelled.{MarkedAside}
 use Rattle.speculation.specs.Counts.{CountedSpeculation, counted_speculative_run}
 use Rattle.speculation.specs.Recounts.{SummedAheadCounted}
-use Rattle.speculation.proofs.Labelled.{against-labelled}
+use Rattle.speculation.proofs.Labelled.{against_labelled}
 use Rattle.speculation.proofs.Recounts.{counts_of_speculative_runs, counted_speculative_noninterference, counted_speculative_resumes}
 use Rattle.interpreter.specs.Composition.{LabelledCall, PlainCall, SpeculativeCall, left, plain_left, counted_left, speculative_left, counted_speculative_left, LongEnough}
 use Rattle.interpreter.specs.Composition.{CallsNoninterfere, LabelledCallsResume, PlainCallsResume, SpeculativeCallsNoninterfere, SpeculativeCallsResume}
@@ -41,17 +41,17 @@ module _ {settings : Settings} {list : List ℕ} {start budget : ℕ} (c : Label
   left-run : LongEnough c.memory c.counts → left c ≡ labelled_run settings list start budget c.log c.labels c.memory
   left-run t =
       ap (λ (o : CountedOutcome). o.outcome) c.ensures
-      ∙ (counts_of-labelled_runs settings list start budget c.log c.labels c.memory c.counts).others t
+      ∙ (counts_of_labelled_runs settings list start budget c.log c.labels c.memory c.counts).others t
 
   left_counts : CountsKept c.labels c.counts c.labels' c.counts'
   left_counts =
-      let k = counts_of-labelled_runs settings list start budget c.log c.labels c.memory c.counts in
+      let k = counts_of_labelled_runs settings list start budget c.log c.labels c.memory c.counts in
       subst (λ (o : CountedOutcome). CountsKept c.labels c.counts o.outcome.labels o.counts) (sym c.ensures) (record { turned = k.turned; kept = k.kept })
 
   left-words : WordsOf c.counts → WordsOf c.counts'
   left-words w =
       subst (λ (o : CountedOutcome). WordsOf o.counts) (sym c.ensures)
-      ((counts_of-labelled_runs settings list start budget c.log c.labels c.memory c.counts).words w)
+      ((counts_of_labelled_runs settings list start budget c.log c.labels c.memory c.counts).words w)
 
   -- where the ending is not LEAK, what the plain call left that is lent the same
   alike : LongEnough c.memory c.counts → (p : PlainCall settings list start budget) → p.memory ≡ c.memory → length p.log ≡ length c.log
@@ -127,20 +127,20 @@ module _ {settings : Settings} {list : List ℕ} {start budget window : ℕ} (s 
       subst (λ (o : CountedSpeculation). CountsKept s.labels s.counts o.speculation.outcome.labels o.counts) (sym s.ensures)
       (record { turned = k.turned; kept = k.kept })
 
-  speculative-words : WordsOf s.counts → WordsOf s.counts'
-  speculative-words w =
+  speculative_words : WordsOf s.counts → WordsOf s.counts'
+  speculative_words w =
       subst (λ (o : CountedSpeculation). WordsOf o.counts) (sym s.ensures)
       ((counts_of_speculative_runs settings list start budget window s.log s.journal s.labels s.memory s.counts).words w)
 
 module _ {settings : Settings} {list : List ℕ} {start budget window : ℕ} (s : SpeculativeCall settings list start budget window) (l : LabelledCall settings list start budget)
     (a : LentAlike s l) where
   -- what the speculative call left, told of what the labelled call was lent
-  counted-left_of : counted_speculative_left s ≡ counted_speculative_run settings list start budget window l.log s.journal l.labels l.memory l.counts
-  counted-left_of = s.ensures ∙ rw (a.memory, a.labels, a.counts, a.log) refl
+  counted_left_of : counted_speculative_left s ≡ counted_speculative_run settings list start budget window l.log s.journal l.labels l.memory l.counts
+  counted_left_of = s.ensures ∙ rw (a.memory, a.labels, a.counts, a.log) refl
 
   left_of : LongEnough l.memory l.counts → speculative_left s ≡ speculative_run settings list start budget window l.log s.journal l.labels l.memory
   left_of t =
-      ap (λ (o : CountedSpeculation). o.speculation) counted-left_of
+      ap (λ (o : CountedSpeculation). o.speculation) counted_left_of
       ∙ (counts_of_speculative_runs settings list start budget window l.log s.journal l.labels l.memory l.counts).others t
 
 -- counts that turned with the same labels, of 64-bit words
@@ -178,7 +178,7 @@ left_below {settings} {list} {start} {budget} l k h = by (counts_fit (lengths_of
     by : (t : Bool) → counts_fit (lengths_of l.memory) (lengths_of l.counts) ≡ t → get_or l.log' k 0 < window_mark
     by true t =
         subst (λ (o : Outcome). k < o.report.logged → get_or o.log k 0 < window_mark) (sym (left-run l t))
-        (against-labelled.below settings list start budget l.log l.labels l.memory k) h
+        (against_labelled.below settings list start budget l.log l.labels l.memory k) h
     by false t =
         let z : l.report.logged ≡ 0 =
         ap (λ (o : CountedOutcome). o.outcome.report.logged) l.ensures ∙ none_written settings list start budget l.log l.labels l.memory l.counts t in
@@ -187,19 +187,19 @@ left_below {settings} {list} {start} {budget} l k h = by (counts_fit (lengths_of
 -- with W = 0
 same_left : {settings : Settings} {list : List ℕ} {start budget : ℕ} (s : SpeculativeCall settings list start budget 0) (l : LabelledCall settings list start budget)
     → LentAlike s l → LongEnough l.memory l.counts → speculative_left s ≡ record { outcome = left l; journal = s.journal }
-same_left s l a t = left_of s l a t ∙ rw (left-run l t) (against-labelled.no_window _ _ _ _ l.log s.journal l.labels l.memory)
+same_left s l a t = left_of s l a t ∙ rw (left-run l t) (against_labelled.no_window _ _ _ _ l.log s.journal l.labels l.memory)
 
-pub speculative_calls_against-labelled : SpeculativeCallsAgainstLabelled
+pub speculative_calls_against_labelled : SpeculativeCallsAgainstLabelled
 unfolding window_mark
-speculative_calls_against-labelled = record {
+speculative_calls_against_labelled = record {
   aside = λ s l a t w j x y.
       let e = left_of s l a t in
       let ending : Speculation → ℕ = λ o. o.outcome.report.ending in
       subst (λ (o : Speculation). MarkedAside o.outcome (left l)) (sym e)
       (subst (MarkedAside _) (sym (left-run l t))
-      (against-labelled.aside _ _ _ _ _ l.log s.journal l.labels l.memory w j (λ z. x (ap ending e ∙ z)) (λ z. y (ap ending e ∙ z))));
+      (against_labelled.aside _ _ _ _ _ l.log s.journal l.labels l.memory w j (λ z. x (ap ending e ∙ z)) (λ z. y (ap ending e ∙ z))));
   counts = λ {settings} {list} {start} {budget} {window} s l a t v w j x y.
-      let e = counted-left_of s l a in
+      let e = counted_left_of s l a in
       let ending : CountedSpeculation → ℕ = λ o. o.speculation.outcome.report.ending in
       ap (λ (o : CountedSpeculation). o.counts) e
       ∙ (counts_of_speculative_runs settings list start budget window l.log s.journal l.labels l.memory l.counts).aside v t w j
@@ -209,7 +209,7 @@ speculative_calls_against-labelled = record {
   no_window = same_left;
   no_window_counts = λ s l a t v.
       let same : s.labels' ≡ l.labels' = ap (λ (o : Speculation). o.outcome.labels) (same_left s l a t) in
-      told l.labels l.labels' l.counts (speculative-words s (rw a.counts v)) (left-words l v) (rw (a.labels, a.counts, same) at (speculative_counts s).turned) (left_counts l).turned;
+      told l.labels l.labels' l.counts (speculative_words s (rw a.counts v)) (left-words l v) (rw (a.labels, a.counts, same) at (speculative_counts s).turned) (left_counts l).turned;
 }
 
 -- ---- counts of secret bytes

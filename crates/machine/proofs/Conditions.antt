@@ -36,7 +36,7 @@ use Rattle.validation.proofs.WellFormed.{verdict-zero}
 use Rattle.operation.specs.declared.layout.Lengths.{Lengths}
 use Rattle.machine.proofs.Ranges.{in_range}
 use Rattle.machine.proofs.Budget.{Repeats, run_repeats, Ends, stepped_ends}
-use Rattle.machine.proofs.Plain.{none-secret}
+use Rattle.machine.proofs.Plain.{none_secret}
 use Rattle.machine.proofs.Moves.{moved_whole, moved-part, moved_extended, moved_both}
 use Rattle.machine.proofs.Labels.{told_one, told_both, told_extended, told_whole}
 
@@ -44,7 +44,7 @@ use Rattle.machine.proofs.Labels.{told_one, told_both, told_extended, told_whole
 
 public_space : (labels : Memory) (v : Varnode) → space_of labels v.space ≡ [] → any_secret (bytes_at labels v) ≡ false
 unfolding bytes_at part
-public_space labels v e = rw e (none-secret v.size (λ i. 0) (λ i. refl))
+public_space labels v e = rw e (none_secret v.size (λ i. 0) (λ i. refl))
 
 constant_space : (labels : Memory) (space : ℕ) → space ≡ 1 → space_of labels space ≡ []
 unfolding space_of
@@ -69,18 +69,18 @@ pub absent-written : (m : Memory) (v : Varnode) (bs : List ℕ) → v ≡ absent
 unfolding absent written with_space
 absent-written m v bs e = rw e refl
 
-pub one-secret : (labels : Memory) (v : Varnode) → secret labels (v ∷ []) ≡ has_secret labels v
+pub one_secret : (labels : Memory) (v : Varnode) → secret labels (v ∷ []) ≡ has_secret labels v
 unfolding secret
-one-secret labels v = or_false (any_secret (bytes_at labels v)) ∙ has-secret labels v
+one_secret labels v = or_false (any_secret (bytes_at labels v)) ∙ has-secret labels v
 
-pub two-secret : (labels : Memory) (u v : Varnode) → secret labels (u ∷ v ∷ []) ≡ has_secret labels u || has_secret labels v
+pub two_secret : (labels : Memory) (u v : Varnode) → secret labels (u ∷ v ∷ []) ≡ has_secret labels u || has_secret labels v
 unfolding secret
-two-secret labels u v = rw (or_false, has-secret labels u, has-secret labels v) refl
+two_secret labels u v = rw (or_false, has-secret labels u, has-secret labels v) refl
 
 -- what a division must find public
-pub division-secret : (labels : Memory) (op : Operation) → secret labels (sinks Kind.divide op) ≡ has_secret labels op.input1 || has_secret labels op.input0
+pub division_secret : (labels : Memory) (op : Operation) → secret labels (sinks Kind.divide op) ≡ has_secret labels op.input1 || has_secret labels op.input0
 unfolding sinks
-division-secret labels op = two-secret labels op.input1 op.input0
+division_secret labels op = two_secret labels op.input1 op.input0
 
 -- ---- the bytes written
 
@@ -353,7 +353,7 @@ module _ (program : Program) (op : Operation) (at : Position) (labels m : Memory
     jumped : to ≡ a
         → execute_as program Kind.jump op at labels m ≡ exact_step_by (has_secret labels op.input0) false false false true word to next place marks value
     unfolding execute_as sinks resolved_value resolved tested exact_step_by apply_decision decided checked ending_of
-    jumped e = rw (one-secret labels op.input0, ← e) (by (has_secret labels op.input0))
+    jumped e = rw (one_secret labels op.input0, ← e) (by (has_secret labels op.input0))
       where
         by : (t : Bool) → apply_decision program Kind.jump op at labels m to (cond t (Decision.stop Stop.leak) (Decision.exit [] to))
             ≡ exact_step_by t false false false true word to next place marks value
@@ -364,7 +364,7 @@ module _ (program : Program) (op : Operation) (at : Position) (labels m : Memory
         → execute_as program Kind.divide op at labels m
         ≡ exact_step_by (has_secret labels op.input1 || has_secret labels op.input0) false (eqb value1 0) false false word to next place marks value
     unfolding execute_as resolved_value resolved tested exact_step_by apply_decision decided checked ending_of
-    divided n w = rw (division-secret labels op, n) (by (has_secret labels op.input1 || has_secret labels op.input0) (eqb value1 0))
+    divided n w = rw (division_secret labels op, n) (by (has_secret labels op.input1 || has_secret labels op.input0) (eqb value1 0))
       where
         by : (t z : Bool) → apply_decision program Kind.divide op at labels m value1
             (cond t (Decision.stop Stop.leak) (cond z (Decision.stop Stop.zero_divisor) (Decision.next [] (suc at.index))))
@@ -383,7 +383,7 @@ module _ (program : Program) (op : Operation) (at : Position) (labels m : Memory
         word to next place marks value
     unfolding execute_as resolved_value tested exact_step_by apply_decision decided access logging ending_of
     accessed k size g u v c n l w =
-        rw (g, u, v value1, c, one-secret labels op.input1, n, l)
+        rw (g, u, v value1, c, one_secret labels op.input1, n, l)
         (by (has_secret labels op.input1) (leb (offset1 + size) (length (space_of m op.input0.offset))) (eqb at.room 0))
       where
         written_word : ℕ
@@ -432,7 +432,7 @@ module _ (program : Program) (op : Operation) (at : Position) (labels m : Memory
         ≡ exact_step_by (has_secret labels op.input1) false false true (not (eqb value1 0) && eqb op.input0.space 4) word to next place marks value
     unfolding execute_as sinks resolved_value resolved tested decided checked apply_decision exact_step_by target logging flag ending_of
     cbranched l t n e d =
-        rw (one-secret labels op.input1, l, t, n) (by (has_secret labels op.input1) (eqb value1 0) (eqb at.room 0))
+        rw (one_secret labels op.input1, l, t, n) (by (has_secret labels op.input1) (eqb value1 0) (eqb at.room 0))
       where
         by : (t z f : Bool)
             → apply_decision program Kind.cbranch op at labels m value1
@@ -536,10 +536,10 @@ module _ (program : Program) (op : Operation) (at : Position) (labels m : Memory
         value_fits program.settings m (pointee op offset1 size) bytes
         (λ e. let k : 2 ≤ op.input0.offset = (names_bytes op.input0 (f.named a)).1 in absurd (let z : ⊥ = omega arith in z))
 
-    meets-load : class_of op.opcode ≡ load → Bytes op.output.size (pointee op offset1 op.output.size ∷ [])
+    meets_load : class_of op.opcode ≡ load → Bytes op.output.size (pointee op offset1 op.output.size ∷ [])
         → Labels op.output.size (pointee op offset1 op.output.size ∷ []) → Meets
     unfolding load exact_step_as sinks tested resolved checked target sources pointee exceeds_space log_word
-    meets-load c e l =
+    meets_load c e l =
         exact_step_as_lem load c
         (rw (
           or_false (has_secret labels op.input1),
@@ -551,9 +551,9 @@ module _ (program : Program) (op : Operation) (at : Position) (labels m : Memory
         (accessed _ _ _ _ _ _ Kind.load op.output.size refl refl (λ x. refl) (λ i extent room x. refl) refl refl
         (writes Kind.load _ _ _ _ refl l e)))
 
-    meets-store : class_of op.opcode ≡ store → Bytes op.input2.size (op.input2 ∷ []) → Labels op.input2.size (op.input2 ∷ []) → Meets
+    meets_store : class_of op.opcode ≡ store → Bytes op.input2.size (op.input2 ∷ []) → Labels op.input2.size (op.input2 ∷ []) → Meets
     unfolding store exact_step_as sinks tested resolved checked target sources pointee exceeds_space log_word
-    meets-store c e l =
+    meets_store c e l =
         exact_step_as_lem store c
         (rw (
           or_false (has_secret labels op.input1),
@@ -579,28 +579,28 @@ module _ (program : Program) (op : Operation) (at : Position) (labels m : Memory
     bytes_sext e =
         moved_extended program.settings op m op.output.size op.input0 (rw e refl) bytes (f.fits0 (rw e refl)) e (f.extended e).0 (f.extended e).1 ∙ rw e refl
 
-    bytes-load : op.opcode ≡ 2 → Bytes op.output.size (pointee op offset1 op.output.size ∷ [])
+    bytes_load : op.opcode ≡ 2 → Bytes op.output.size (pointee op offset1 op.output.size ∷ [])
     unfolding operand1 byte_offset value_written value_moved value_computed moves dropped member accesses pointee
-    bytes-load e =
+    bytes_load e =
         moved_whole program.settings op m op.output.size (pointee op offset1 op.output.size) (rw e refl) bytes (pointee_fits (rw e refl) op.output.size) (rw e refl) (rw e refl) ∙ rw e refl
 
-    bytes-store : op.opcode ≡ 3 → Bytes op.input2.size (op.input2 ∷ [])
+    bytes_store : op.opcode ≡ 3 → Bytes op.input2.size (op.input2 ∷ [])
     unfolding operand1 value_written value_moved value_computed moves dropped member
-    bytes-store e = moved_whole program.settings op m op.input2.size op.input2 (rw e refl) bytes f.fits2 (rw e refl) (rw e refl) ∙ rw e refl
+    bytes_store e = moved_whole program.settings op m op.input2.size op.input2 (rw e refl) bytes f.fits2 (rw e refl) (rw e refl) ∙ rw e refl
 
-    bytes-computed : moves op ≡ false → Bytes op.output.size (op.input0 ∷ op.input1 ∷ [])
+    bytes_computed : moves op ≡ false → Bytes op.output.size (op.input0 ∷ op.input1 ∷ [])
     unfolding operand1 value_written value_moved value_computed moves member
-    bytes-computed e =
+    bytes_computed e =
         calculated program.settings op m op.output.size e ∙ (let o = no_move op.opcode e in rw (o.0, o.1, o.2) refl)
 
-    bytes-piece : op.opcode ≡ 10 → Bytes op.output.size (op.input1 ∷ op.input0 ∷ [])
+    bytes_piece : op.opcode ≡ 10 → Bytes op.output.size (op.input1 ∷ op.input0 ∷ [])
     unfolding operand1 value_written value_moved value_computed result_of integer_results lookup piece moves dropped member branches
-    bytes-piece e =
+    bytes_piece e =
         moved_both program.settings op m op.input0 op.input1 bytes op.output.size (rw e refl) (rw e refl) (rw e refl) (f.fits0 (rw e refl)) f.fits1 ∙ rw e refl
 
-    bytes-subpiece : op.opcode ≡ 11 → Bytes op.output.size (op.input0 ∷ [])
+    bytes_subpiece : op.opcode ≡ 11 → Bytes op.output.size (op.input0 ∷ [])
     unfolding operand1 value_written value_moved value_computed result_of integer_results lookup subpiece moves dropped member branches
-    bytes-subpiece e =
+    bytes_subpiece e =
         moved-part program.settings op m op.output.size op.input0 (rw e refl) bytes (f.fits0 (rw e refl)) op.input1.offset (rw e refl) (rw e refl)
         ∙ ap (λ (k : ℕ). bytes_of (big_endian program.settings) op.output.size (subpiece op.output.size a k)) (sym (constant_value program.settings m op.input1 (f.constant1 e)))
         ∙ rw e refl
@@ -615,57 +615,57 @@ module _ (program : Program) (op : Operation) (at : Position) (labels m : Memory
     unfolding moves dropped member label_moved
     labels_zext e = told_one program.settings op labels b op.output.size op.input0 (rw e refl) (rw e refl) 0 (rw e refl) (λ k. rw (e, zero-add k) refl)
 
-    labels-load : op.opcode ≡ 2 → Labels op.output.size (pointee op offset1 op.output.size ∷ [])
+    labels_load : op.opcode ≡ 2 → Labels op.output.size (pointee op offset1 op.output.size ∷ [])
     unfolding operand1 byte_offset moves dropped member label_moved
-    labels-load e =
+    labels_load e =
         told_one program.settings op labels b op.output.size (pointee op offset1 op.output.size) (rw e refl) (rw e refl) 0 (rw e refl) (λ k. rw (e, zero-add k) refl)
 
-    labels-store : op.opcode ≡ 3 → Labels op.input2.size (op.input2 ∷ [])
+    labels_store : op.opcode ≡ 3 → Labels op.input2.size (op.input2 ∷ [])
     unfolding moves dropped member label_moved
-    labels-store e = told_one program.settings op labels b op.input2.size op.input2 (rw e refl) (rw e refl) 0 (rw e refl) (λ k. rw (e, zero-add k) refl)
+    labels_store e = told_one program.settings op labels b op.input2.size op.input2 (rw e refl) (rw e refl) 0 (rw e refl) (λ k. rw (e, zero-add k) refl)
 
-    labels-subpiece : op.opcode ≡ 11 → Labels op.output.size (op.input0 ∷ [])
+    labels_subpiece : op.opcode ≡ 11 → Labels op.output.size (op.input0 ∷ [])
     unfolding moves dropped member label_moved
-    labels-subpiece e = told_one program.settings op labels b op.output.size op.input0 (rw e refl) (rw e refl) op.input1.offset (rw e refl) (λ k. rw e refl)
+    labels_subpiece e = told_one program.settings op labels b op.output.size op.input0 (rw e refl) (rw e refl) op.input1.offset (rw e refl) (λ k. rw e refl)
 
-    labels-piece : op.opcode ≡ 10 → Labels op.output.size (op.input1 ∷ op.input0 ∷ [])
+    labels_piece : op.opcode ≡ 10 → Labels op.output.size (op.input1 ∷ op.input0 ∷ [])
     unfolding moves dropped member label_moved
-    labels-piece e = told_both program.settings op labels b op.output.size (rw e refl) (rw e refl) (rw e refl) (λ k. rw e refl)
+    labels_piece e = told_both program.settings op labels b op.output.size (rw e refl) (rw e refl) (rw e refl) (λ k. rw e refl)
 
     labels_sext : op.opcode ≡ 20 → Labels op.output.size (op.input0 ∷ [])
     unfolding moves member label_moved
     labels_sext e = told_extended program.settings op labels b op.output.size (rw e refl) e (λ k. rw e refl)
 
-    labels-computed : moves op ≡ false → Labels op.output.size (op.input0 ∷ op.input1 ∷ [])
+    labels_computed : moves op ≡ false → Labels op.output.size (op.input0 ∷ op.input1 ∷ [])
     unfolding becomes_secret moves
-    labels-computed e =
+    labels_computed e =
         told_whole program.settings op labels b op.output.size (op.input0 ∷ op.input1 ∷ []) e
-        (let o = no_move op.opcode e in two-secret labels op.input0 op.input1 ∙ rw (o.1, o.2) (sym (or_false _)))
+        (let o = no_move op.opcode e in two_secret labels op.input0 op.input1 ∙ rw (o.1, o.2) (sym (or_false _)))
 
     pub meets : Meets
     unfolding class_of kind_of branches jumps divides accesses member moves has_place outputs inputs row_of opcodes free divisions indirect_branches direct_branches conditional_branch load store
         sinks checked target sources
     meets =
         when op.opcode 1 (λ e. meets_copy (ap class_of e) (bytes_copy e) (labels_copy e)) (λ n1.
-        when op.opcode 2 (λ e. meets-load (ap class_of e) (bytes-load e) (labels-load e)) (λ n2.
-        when op.opcode 3 (λ e. meets-store (ap class_of e) (bytes-store e) (labels-store e)) (λ n3.
+        when op.opcode 2 (λ e. meets_load (ap class_of e) (bytes_load e) (labels_load e)) (λ n2.
+        when op.opcode 3 (λ e. meets_store (ap class_of e) (bytes_store e) (labels_store e)) (λ n3.
         when op.opcode 4 (λ e. meets_branch (ap class_of e) (f.no_output (rw e refl)) (f.branch_to (rw e refl))) (λ n4.
         when op.opcode 5 (λ e. meets_cbranch (ap class_of e) (f.no_output (rw e refl)) (f.branch_to (rw e refl))) (λ n5.
         when op.opcode 6 (λ e. meets_jump (ap class_of e)) (λ n6.
         when op.opcode 7 (λ e. meets_branch (ap class_of e) (f.no_output (rw e refl)) (f.branch_to (rw e refl))) (λ n7.
         when op.opcode 8 (λ e. meets_jump (ap class_of e)) (λ n8.
         when op.opcode 9 (λ e. meets_jump (ap class_of e)) (λ n9.
-        when op.opcode 10 (λ e. meets_free Kind.piece (op.input1 ∷ op.input0 ∷ []) (ap class_of e) refl (λ i extent room x. refl) refl refl (bytes-piece e) (labels-piece e)) (λ n10.
-        when op.opcode 11 (λ e. meets_free Kind.subpiece (op.input0 ∷ []) (ap class_of e) refl (λ i extent room x. refl) refl refl (bytes-subpiece e) (labels-subpiece e)) (λ n11.
+        when op.opcode 10 (λ e. meets_free Kind.piece (op.input1 ∷ op.input0 ∷ []) (ap class_of e) refl (λ i extent room x. refl) refl refl (bytes_piece e) (labels_piece e)) (λ n10.
+        when op.opcode 11 (λ e. meets_free Kind.subpiece (op.input0 ∷ []) (ap class_of e) refl (λ i extent room x. refl) refl refl (bytes_subpiece e) (labels_subpiece e)) (λ n11.
         when op.opcode 19 (λ e. meets_copy (ap class_of e) (bytes_zext e) (labels_zext e)) (λ n19.
         when op.opcode 20 (λ e. meets_copy (ap class_of e) (bytes_sext e) (labels_sext e)) (λ n20.
-        when op.opcode 35 (λ e. meets_divide (ap class_of e) (bytes-computed (rw e refl)) (labels-computed (rw e refl))) (λ n35.
-        when op.opcode 36 (λ e. meets_divide (ap class_of e) (bytes-computed (rw e refl)) (labels-computed (rw e refl))) (λ n36.
-        when op.opcode 37 (λ e. meets_divide (ap class_of e) (bytes-computed (rw e refl)) (labels-computed (rw e refl))) (λ n37.
-        when op.opcode 38 (λ e. meets_divide (ap class_of e) (bytes-computed (rw e refl)) (labels-computed (rw e refl))) (λ n38.
+        when op.opcode 35 (λ e. meets_divide (ap class_of e) (bytes_computed (rw e refl)) (labels_computed (rw e refl))) (λ n35.
+        when op.opcode 36 (λ e. meets_divide (ap class_of e) (bytes_computed (rw e refl)) (labels_computed (rw e refl))) (λ n36.
+        when op.opcode 37 (λ e. meets_divide (ap class_of e) (bytes_computed (rw e refl)) (labels_computed (rw e refl))) (λ n37.
+        when op.opcode 38 (λ e. meets_divide (ap class_of e) (bytes_computed (rw e refl)) (labels_computed (rw e refl))) (λ n38.
         meets_free Kind.compute (op.input0 ∷ op.input1 ∷ [])
         (rw (no_division op.opcode n35 n36 n37 n38, n1, n2, n3, n4, n5, n6, n7, n8, n9, n10, n11, n19, n20, n35, n36, n37, n38) refl) refl (λ i extent room x. refl) refl refl
-        (bytes-computed (rw (n1, n2, n3, n10, n11, n19, n20) refl)) (labels-computed (rw (n1, n2, n3, n10, n11, n19, n20) refl)))))))))))))))))))
+        (bytes_computed (rw (n1, n2, n3, n10, n11, n19, n20) refl)) (labels_computed (rw (n1, n2, n3, n10, n11, n19, n20) refl)))))))))))))))))))
 
 -- ---- a well-formed operation
 

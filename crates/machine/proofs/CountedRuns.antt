@@ -18,8 +18,8 @@ use Rattle.machine.proofs.Budget.{Repeats, run_repeats, Goes, Later, later_ended
 use Rattle.machine.proofs.Kept.{KeptStep}
 use Rattle.machine.proofs.Counts.{counts_goes}
 use Rattle.machine.proofs.Runs.{Steps, repeated_laws, stepped_laws, started_kept}
-use Rattle.machine.proofs.Resume.{room-left}
-use Rattle.machine.proofs.MovedCounts.{moved-spaces_none, moved-spaces_on, moved-spaces_told, moved-spaces_lengths, after-moved, after-words}
+use Rattle.machine.proofs.Resume.{room_left}
+use Rattle.machine.proofs.MovedCounts.{moved_spaces_none, moved_spaces_on, moved_spaces_told, moved_spaces_lengths, after-moved, after-words}
 
 -- ---- labels that changed, any number of times, their lengths kept
 
@@ -36,20 +36,20 @@ module _ {labels counts : Memory} where
   turns_lengths none = refl
   turns_lengths (more p l' e) = e ∙ turns_lengths p
 
-  pub turns-words : {labels' counts' : Memory} → Turns labels counts labels' counts' → WordsOf counts → WordsOf counts'
-  turns-words none w = w
-  turns-words (more {l} {c} p l' e) w = after-words l l' c (turns-words p w)
+  pub turns_words : {labels' counts' : Memory} → Turns labels counts labels' counts' → WordsOf counts → WordsOf counts'
+  turns_words none w = w
+  turns_words (more {l} {c} p l' e) w = after-words l l' c (turns_words p w)
 
-  pub turns-moved : {labels' counts' : Memory} → counts_fit (lengths_of labels) (lengths_of counts) ≡ true → Turns labels counts labels' counts'
+  pub turns_moved : {labels' counts' : Memory} → counts_fit (lengths_of labels) (lengths_of counts) ≡ true → Turns labels counts labels' counts'
       → MovedSpaces secret_weight labels labels' counts counts'
-  turns-moved t none = moved-spaces_none labels counts
-  turns-moved t (more {l} {c} p l' e) =
-      let q = turns-moved t p in
-      moved-spaces_on (turns_lengths p) q (after-moved l l' c e (rw (turns_lengths p, moved-spaces_lengths q) t))
+  turns_moved t none = moved_spaces_none labels counts
+  turns_moved t (more {l} {c} p l' e) =
+      let q = turns_moved t p in
+      moved_spaces_on (turns_lengths p) q (after-moved l l' c e (rw (turns_lengths p, moved_spaces_lengths q) t))
 
   -- turned back to the same labels, words of 64 bits are the same again
   pub turns_back : {counts' : Memory} → counts_fit (lengths_of labels) (lengths_of counts) ≡ true → WordsOf counts → Turns labels counts labels counts' → counts' ≡ counts
-  turns_back t w p = moved-spaces_told (turns-words p w) w (turns-moved t p) (moved-spaces_none labels counts)
+  turns_back t w p = moved_spaces_told (turns_words p w) w (turns_moved t p) (moved_spaces_none labels counts)
 
 -- ---- the run
 
@@ -133,7 +133,7 @@ module _ {program : Program} {P : Position → Memory → Memory → Ended → T
         let left = drop (length r.position.log) (log_after r.position.log log) in
         r.ending ≡ 2 → C c (starting r.position.index (length left)) r.labels r.memory (C b at labels m counts) ≡ C (b + c) at labels m counts)
     counts_restarted start b c log labels m counts e =
-        rw (room-left log (R b (starting start (length log)) labels m).position (started_kept (repeated_laws steps u) start b log labels m).log)
+        rw (room_left log (R b (starting start (length log)) labels m).position (started_kept (repeated_laws steps u) start b log labels m).log)
         (counts_resumed b c (starting start (length log)) labels m counts e)
 
 -- ---- the labelled run
@@ -145,10 +145,10 @@ run_turned program = run_turns (stepped_laws program) (run_repeats program) (run
 module _ (program : Program) (budget : ℕ) (at : Position) (labels m counts : Memory) where
   pub run_moved : counts_fit (lengths_of labels) (lengths_of counts) ≡ true
       → MovedSpaces secret_weight labels (run program budget at labels m).labels counts (run_counts program budget at labels m counts)
-  run_moved t = turns-moved t (run_turned program budget at labels m counts)
+  run_moved t = turns_moved t (run_turned program budget at labels m counts)
 
   pub run_counts_lengths : counts_fit (lengths_of labels) (lengths_of counts) ≡ true → lengths_of (run_counts program budget at labels m counts) ≡ lengths_of counts
-  run_counts_lengths t = moved-spaces_lengths (run_moved t)
+  run_counts_lengths t = moved_spaces_lengths (run_moved t)
 
   pub run_counts-words : WordsOf counts → WordsOf (run_counts program budget at labels m counts)
-  run_counts-words = turns-words (run_turned program budget at labels m counts)
+  run_counts-words = turns_words (run_turned program budget at labels m counts)

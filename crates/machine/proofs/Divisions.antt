@@ -30,7 +30,7 @@ use Rattle.machine.proofs.Secrecy as secrecy
 use Rattle.machine.proofs.Plain.{stepped_same}
 use Rattle.machine.proofs.Plain as plain
 use Rattle.machine.proofs.Noninterference.{spaces_from}
-use Rattle.machine.proofs.Conditions.{when, no_division, two-secret, division-secret}
+use Rattle.machine.proofs.Conditions.{when, no_division, two_secret, division_secret}
 
 -- ---- a division's operands must be public
 
@@ -41,19 +41,19 @@ division_kind n d =
     absurd (true≢false (sym d ∙ no_division n n35 n36 n37 n38))))))
 
 -- a secret byte is in what an operation must find public
-abbrev pub finds-secret : Operation → Memory → Bool
-finds-secret op labels = secret labels (sinks (kind_of op.opcode) op)
+abbrev pub finds_secret : Operation → Memory → Bool
+finds_secret op labels = secret labels (sinks (kind_of op.opcode) op)
 
-division_finds : (labels : Memory) (op : Operation) → divides op.opcode ≡ true → finds-secret op labels ≡ secret labels (op.input0 ∷ op.input1 ∷ [])
+division_finds : (labels : Memory) (op : Operation) → divides op.opcode ≡ true → finds_secret op labels ≡ secret labels (op.input0 ∷ op.input1 ∷ [])
 division_finds labels op d =
     ap (λ (k : Kind). secret labels (sinks k op)) (division_kind op.opcode d)
-    ∙ division-secret labels op ∙ or_commutes (has_secret labels op.input1) (has_secret labels op.input0)
-    ∙ sym (two-secret labels op.input0 op.input1)
+    ∙ division_secret labels op ∙ or_commutes (has_secret labels op.input1) (has_secret labels op.input0)
+    ∙ sym (two_secret labels op.input0 op.input1)
 
-division-view : {labels m n : Memory} → Spaces Public labels m n → (program : Program) (i : ℕ)
-    → finds-secret (operation_at program.list i) labels ≡ false → division_at program i m ≡ division_at program i n
+division_view : {labels m n : Memory} → Spaces Public labels m n → (program : Program) (i : ℕ)
+    → finds_secret (operation_at program.list i) labels ≡ false → division_at program i m ≡ division_at program i n
 unfolding division_at
-division-view {labels} {m} {n} r program i h = by (divides op.opcode) refl
+division_view {labels} {m} {n} r program i h = by (divides op.opcode) refl
   where
     op : Operation
     op = operation_at program.list i
@@ -67,17 +67,17 @@ division-view {labels} {m} {n} r program i h = by (divides op.opcode) refl
     by true d = ap (λ (vs : List ℕ). i ∷ vs) (public_values r program.settings operands (sym (division_finds labels op d) ∙ h))
 
 -- LEAK is looked at first
-leak_halts : (program : Program) (at : Position) (labels m : Memory) → finds-secret (operation_at program.list at.index) labels ≡ true
+leak_halts : (program : Program) (at : Position) (labels m : Memory) → finds_secret (operation_at program.list at.index) labels ≡ true
     → execute program (operation_at program.list at.index) at labels m ≡ Stepped.halted (ended 31 0 at labels m)
 unfolding execute execute_as decided apply_decision ending_of
 leak_halts program at labels m h = rw h refl
 
 -- ---- two memories
 
-pub leak-divides_nothing : (division : List ℕ) (f : Position → Memory → Memory → List ℕ) (program : Program) (at : Position) (labels m : Memory)
-    → finds-secret (operation_at program.list at.index) labels ≡ true → divided_after division f (stepped program at labels m) ≡ []
+pub leak_divides_nothing : (division : List ℕ) (f : Position → Memory → Memory → List ℕ) (program : Program) (at : Position) (labels m : Memory)
+    → finds_secret (operation_at program.list at.index) labels ≡ true → divided_after division f (stepped program at labels m) ≡ []
 unfolding divided_after stepped
-leak-divides_nothing division f program at labels m h =
+leak_divides_nothing division f program at labels m h =
     either (λ (s : Stepped). divided_after division f s ≡ []) (ltb at.index (operation_count program.list)) _ _
     (rw (leak_halts program at labels m h) refl) refl
 
@@ -89,24 +89,24 @@ after-view division f h (secrecy.halts v) = refl
 after-view division f h (secrecy.goes {at} {labels} {m} {n} r) = ap (λ (rest : List ℕ). division ++ rest) (h at labels m n r)
 
 -- an operation that leaks divides nothing, any other divides the same; `a` and `b` are what it does in the two memories
-pub step-view : (program : Program) {labels m n : Memory} → Spaces Public labels m n → (i : ℕ) (f : Position → Memory → Memory → List ℕ)
+pub step_view : (program : Program) {labels m n : Memory} → Spaces Public labels m n → (i : ℕ) (f : Position → Memory → Memory → List ℕ)
     → ((at : Position) (labels m n : Memory) → Spaces Public labels m n → f at labels m ≡ f at labels n)
     → {a b : Stepped} → secrecy.SameSteps a b
-    → ((division : List ℕ) → finds-secret (operation_at program.list i) labels ≡ true → (divided_after division f a ≡ []) × (divided_after division f b ≡ []))
+    → ((division : List ℕ) → finds_secret (operation_at program.list i) labels ≡ true → (divided_after division f a ≡ []) × (divided_after division f b ≡ []))
     → divided_after (division_at program i m) f a ≡ divided_after (division_at program i n) f b
-step-view program {labels} {m} {n} r i f h {a} {b} s none = by (finds-secret (operation_at program.list i) labels) refl
+step_view program {labels} {m} {n} r i f h {a} {b} s none = by (finds_secret (operation_at program.list i) labels) refl
   where
-    by : (t : Bool) → finds-secret (operation_at program.list i) labels ≡ t → divided_after (division_at program i m) f a ≡ divided_after (division_at program i n) f b
+    by : (t : Bool) → finds_secret (operation_at program.list i) labels ≡ t → divided_after (division_at program i m) f a ≡ divided_after (division_at program i n) f b
     by true g = (none (division_at program i m) g).0 ∙ sym (none (division_at program i n) g).1
-    by false g = rw (division-view r program i g) (after-view _ f h s)
+    by false g = rw (division_view r program i g) (after-view _ f h s)
 
 pub divided-view : (program : Program) (budget : ℕ) (at : Position) (labels m n : Memory) → Spaces Public labels m n
     → divided program budget at labels m ≡ divided program budget at labels n
 unfolding divided
 divided-view program zero at labels m n r = refl
 divided-view program (suc budget) at labels m n r =
-    step-view program r at.index (divided program budget) (λ at' l m' n' r'. divided-view program budget at' l m' n' r') (stepped-view program r at)
-    (λ division g. (leak-divides_nothing division (divided program budget) program at labels m g, leak-divides_nothing division (divided program budget) program at labels n g))
+    step_view program r at.index (divided program budget) (λ at' l m' n' r'. divided-view program budget at' l m' n' r') (stepped-view program r at)
+    (λ division g. (leak_divides_nothing division (divided program budget) program at labels m g, leak_divides_nothing division (divided program budget) program at labels n g))
 
 -- ---- the plain run
 

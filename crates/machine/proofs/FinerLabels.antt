@@ -59,33 +59,33 @@ module _ (big : Bool) (labels : Memory) where
         let h : has_secret labels op.input0 || has_secret labels op.input1 || (true && has_secret labels (pointee op b op.output.size)) ≡ false = rw (n3, e) at none in
         (neither (has_secret labels op.input0 || has_secret labels op.input1) _ h).1
 
-    public-stored : eqb op.opcode 3 ≡ true → has_secret labels op.input2 ≡ false
+    public_stored : eqb op.opcode 3 ≡ true → has_secret labels op.input2 ≡ false
     unfolding becomes_secret
-    public-stored e = rw e at none
+    public_stored e = rw e at none
 
-    public-inputs : eqb op.opcode 3 ≡ false → (has_secret labels op.input0 ≡ false) × (has_secret labels op.input1 ≡ false)
+    public_inputs : eqb op.opcode 3 ≡ false → (has_secret labels op.input0 ≡ false) × (has_secret labels op.input1 ≡ false)
     unfolding becomes_secret
-    public-inputs e =
+    public_inputs e =
         let h : has_secret labels op.input0 || has_secret labels op.input1 || (eqb op.opcode 2 && has_secret labels (pointee op b op.output.size)) ≡ false = rw e at none in
         neither (has_secret labels op.input0) (has_secret labels op.input1) (neither (has_secret labels op.input0 || has_secret labels op.input1) _ h).0
 
-    public-moved : label_moved big labels op b k ≡ 0
+    public_moved : label_moved big labels op b k ≡ 0
     unfolding label_moved label_joined label_extended
-    public-moved = by (eqb op.opcode 2) refl (eqb op.opcode 3) refl
+    public_moved = by (eqb op.opcode 2) refl (eqb op.opcode 3) refl
       where
         by : (t : Bool) → eqb op.opcode 2 ≡ t → (u : Bool) → eqb op.opcode 3 ≡ u → label_moved big labels op b k ≡ 0
         by true e u f = rw e (public_label (pointee op b op.output.size) (public_loaded e) k)
-        by false e true f = rw (e, f) (public_label op.input2 (public-stored f) k)
+        by false e true f = rw (e, f) (public_label op.input2 (public_stored f) k)
         by false e false f =
-            let p = public-inputs f in
+            let p = public_inputs f in
             let all : (j : ℕ) → label_of big labels op.input0 j ≡ 0 = public_label op.input0 p.0 in
             rw (e, f)
             (either_equal (eqb op.opcode 10) (either_equal (ltb k op.input1.size) (public_label op.input1 p.1 k) (all (k - op.input1.size)))
             (either_equal (eqb op.opcode 11) (all (op.input1.offset + k)) (either_equal (eqb op.opcode 20) (all _) (all k))))
 
-    public-written : label_written big labels op b k ≡ 0
+    public_written : label_written big labels op b k ≡ 0
     unfolding label_written flag
-    public-written = rw none (either_equal (member op.opcode moving) public-moved refl)
+    public_written = rw none (either_equal (member op.opcode moving) public_moved refl)
 
 -- ---- one operation
 
@@ -118,7 +118,7 @@ written_finer big labels op b space i e =
     marks =
         each_from (replicate n base) (tabulate n f) (replicate n base) (length-replicate n base ∙ sym (tabulate-length n f)) (tabulate-length n f ∙ sym (length-replicate n base))
         (λ j l z. let m : j < n = subst (λ (k : ℕ). j < k) (length-replicate n base) l in
-        tabulate_at n f j m ∙ public-written big labels op b (flag-zero (becomes_secret labels op b) (sym (get_or-replicate n j base 0 m) ∙ z)) (significance big n j))
+        tabulate_at n f j m ∙ public_written big labels op b (flag-zero (becomes_secret labels op b) (sym (get_or-replicate n j base 0 m) ∙ z)) (significance big n j))
 
 written_whole : (big : Bool) (labels : Memory) (op : Operation) (b : ℕ) → member op.opcode moving ≡ false
     → labels_after big labels op b ≡ base_labels labels op b

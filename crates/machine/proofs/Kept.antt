@@ -48,10 +48,10 @@ all_set [] i x h e = refl
 all_set (y ∷ l) zero x h e = let b = both (leb y 1) (all_labels l) h in rw (e, b.1)
 all_set (y ∷ l) (suc i) x h e = let b = both (leb y 1) (all_labels l) h in rw (b.0, all_set l i x b.1 e)
 
-all-sets : (l : List ℕ) (i : ℕ) (xs : List ℕ) → all_labels l ≡ true → all_labels xs ≡ true → all_labels (sets l i xs) ≡ true
+all_sets : (l : List ℕ) (i : ℕ) (xs : List ℕ) → all_labels l ≡ true → all_labels xs ≡ true → all_labels (sets l i xs) ≡ true
 unfolding all_labels
-all-sets l i [] h e = h
-all-sets l i (x ∷ xs) h e = let b = both (leb x 1) (all_labels xs) e in all-sets (set l i x) (suc i) xs (all_set l i x h b.0) b.1
+all_sets l i [] h e = h
+all_sets l i (x ∷ xs) h e = let b = both (leb x 1) (all_labels xs) e in all_sets (set l i x) (suc i) xs (all_set l i x h b.0) b.1
 
 flag_label : (t : Bool) → leb (flag t) 1 ≡ true
 unfolding flag
@@ -69,10 +69,10 @@ all_at [] h i = refl
 all_at (l ∷ ls) h zero = (both (leb l 1) (all_labels ls) h).0
 all_at (l ∷ ls) h (suc i) = all_at ls (both (leb l 1) (all_labels ls) h).1 i
 
-all-tabulate : (n : ℕ) (f : ℕ → ℕ) → ((i : ℕ) → leb (f i) 1 ≡ true) → all_labels (tabulate n f) ≡ true
+all_tabulate : (n : ℕ) (f : ℕ → ℕ) → ((i : ℕ) → leb (f i) 1 ≡ true) → all_labels (tabulate n f) ≡ true
 unfolding all_labels tabulate
-all-tabulate zero f h = refl
-all-tabulate (suc n) f h = rw (h 0, all-tabulate n (λ i. f (suc i)) (λ i. h (suc i)))
+all_tabulate zero f h = refl
+all_tabulate (suc n) f h = rw (h 0, all_tabulate n (λ i. f (suc i)) (λ i. h (suc i)))
 
 all_append : (ls ks : List ℕ) → all_labels ls ≡ true → all_labels ks ≡ true → all_labels (ls ++ ks) ≡ true
 unfolding all_labels
@@ -90,7 +90,7 @@ module _ (labels : Memory) (h : labels_in_range labels ≡ true) where
 
   all_label_bytes : (v : Varnode) → all_labels (bytes_at labels v) ≡ true
   unfolding bytes_at part
-  all_label_bytes v = all-tabulate v.size (λ i. get_or (space_of labels v.space) (v.offset + i) 0) (λ i. all_at (space_of labels v.space) (all_space v.space) (v.offset + i))
+  all_label_bytes v = all_tabulate v.size (λ i. get_or (space_of labels v.space) (v.offset + i) 0) (λ i. all_at (space_of labels v.space) (all_space v.space) (v.offset + i))
 
   all_read : (settings : Settings) (vs : List Varnode) → all_labels (labels_of settings labels vs) ≡ true
   unfolding labels_of ordered all_labels
@@ -98,7 +98,7 @@ module _ (labels : Memory) (h : labels_in_range labels ≡ true) where
   all_read settings (v ∷ vs) =
       let bs : List ℕ = bytes_at labels v in
       let f : ℕ → ℕ = λ i. get_or bs (significance (big_endian settings) (length bs) i) 0 in
-      all_append (tabulate (length bs) f) (labels_of settings labels vs) (all-tabulate (length bs) f (λ i. all_at bs (all_label_bytes v) _)) (all_read settings vs)
+      all_append (tabulate (length bs) f) (labels_of settings labels vs) (all_tabulate (length bs) f (λ i. all_at bs (all_label_bytes v) _)) (all_read settings vs)
 
   entry_label : (ls : List ℕ) → all_labels ls ≡ true → (o : Origin) → leb (entry_from label_fill ls o) 1 ≡ true
   unfolding entry_from label_fill
@@ -106,11 +106,11 @@ module _ (labels : Memory) (h : labels_in_range labels ≡ true) where
   entry_label ls e Origin.zeros = refl
   entry_label ls e (Origin.filled k) = all_at ls e k
 
-  all-written : (settings : Settings) (op : Operation) (size : ℕ) (vs : List Varnode) → all_labels (labels_written settings op size vs labels) ≡ true
+  all_written : (settings : Settings) (op : Operation) (size : ℕ) (vs : List Varnode) → all_labels (labels_written settings op size vs labels) ≡ true
   unfolding labels_written moved
-  all-written settings op size vs =
+  all_written settings op size vs =
       either (λ (l : List ℕ). all_labels l ≡ true) (moves op) _ _
-      (all-tabulate size (λ i. entry_from label_fill (labels_of settings labels vs) (origin op (length (labels_of settings labels vs)) (significance (big_endian settings) size i)))
+      (all_tabulate size (λ i. entry_from label_fill (labels_of settings labels vs) (origin op (length (labels_of settings labels vs)) (significance (big_endian settings) size i)))
       (λ i. entry_label (labels_of settings labels vs) (all_read settings vs) _))
       (all_flags size (secret labels vs))
 
@@ -130,9 +130,9 @@ written_labels m v xs h e = by (eqb v.space 2) (eqb v.space 3) (eqb v.space 4)
         (cond q (record { unique = m.unique; register = sets (cond p m.unique (cond q m.register (cond r m.ram []))) v.offset xs; ram = m.ram })
         (cond r (record { unique = m.unique; register = m.register; ram = sets (cond p m.unique (cond q m.register (cond r m.ram []))) v.offset xs }) m)))
         ≡ true
-    by true q r = rw (all-sets m.unique v.offset xs a.0 e, a.1, b.1)
-    by false true r = rw (all-sets m.register v.offset xs a.1 e, a.0, b.1)
-    by false false true = rw (all-sets m.ram v.offset xs b.1 e, a.0, a.1)
+    by true q r = rw (all_sets m.unique v.offset xs a.0 e, a.1, b.1)
+    by false true r = rw (all_sets m.register v.offset xs a.1 e, a.0, b.1)
+    by false false true = rw (all_sets m.ram v.offset xs b.1 e, a.0, a.1)
     by false false false = h
 
 -- ---- an operation writes at most one log word, and none without room for it
@@ -209,7 +209,7 @@ module _ (words : ℕ) (spaces : Lengths) (marks : Memory) where
         log = advanced_log at _ _ l h.log;
         memory = written_lengths m (target k op x) _ ∙ h.memory;
         lengths = written_lengths labels (target k op x) _ ∙ h.lengths;
-        values = λ q. written_labels labels (target k op x) _ (h.values q) (all-written labels (h.values q) program.settings op _ _);
+        values = λ q. written_labels labels (target k op x) _ (h.values q) (all_written labels (h.values q) program.settings op _ _);
       })
 
   pub stepped_kept : (program : Program) (at : Position) (labels m : Memory) → Kept words spaces marks at labels m → KeptStep (stepped program at labels m)

@@ -22,9 +22,9 @@ use Rattle.machine.proofs.Runs.{Steps, repeated_laws, stepped_laws, run_laws, st
 
 -- ---- the calls
 
-pub log-length : (words log : List ℕ) → length words ≤ length log → length (log_after words log) ≡ length log
+pub log_length : (words log : List ℕ) → length words ≤ length log → length (log_after words log) ≡ length log
 unfolding log_after
-log-length words log h = rw (length-append words (drop (length words) log), length-drop (length words) log) (omega (arith, h))
+log_length words log h = rw (length-append words (drop (length words) log), length-drop (length words) log) (omega (arith, h))
 
 -- what a call leaves that runs, and what one leaves that is refused
 module _ (log : List ℕ) (labels m : Memory) where
@@ -32,7 +32,7 @@ module _ (log : List ℕ) (labels m : Memory) where
   unfolding outcome_of
   ran_limited {r} c k =
       let w : length r.position.log ≤ length log = omega (arith, k) in
-      record { executed = omega (arith, c.counted); stopped = λ z. omega (arith, c.stopped z); logged = w; same_length = log-length r.position.log log w }
+      record { executed = omega (arith, c.counted); stopped = λ z. omega (arith, c.stopped z); logged = w; same_length = log_length r.position.log log w }
 
   module _ {refused : Report} (rs : Refuses refused) where
     pub refused_unchanged : Unchanged log labels m (labelled_outcome refused m labels log)

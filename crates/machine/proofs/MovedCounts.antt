@@ -14,7 +14,7 @@ use Rattle.secret_counts.specs.Changes.{labels_changed, counts_changed}
 use Rattle.secret_counts.specs.Moved.{secret_weight, low_bit, Moved}
 use Rattle.secret_counts.specs.Laws.{Words64}
 use Rattle.secret_counts.proofs.Moves.{moved_none, moved_on, moved_told, moved_weight}
-use Rattle.secret_counts.proofs.Recounting.{changed-moved, count_laws}
+use Rattle.secret_counts.proofs.Recounting.{changed_moved, count_laws}
 use Rattle.operation.specs.declared.layout.Lengths.{Lengths}
 use Rattle.machine.specs.Memory.{Memory, spaces, lengths_of, space_of}
 use Rattle.machine.specs.Calls.{labels_in_range}
@@ -25,37 +25,37 @@ use Rattle.machine.proofs.Cases.{either, either₂}
 use Rattle.machine.proofs.Kept.{all_at, all_space}
 
 -- two memories with the same spaces
-same-spaces : (m n : Memory) → m.unique ≡ n.unique → m.register ≡ n.register → m.ram ≡ n.ram → m ≡ n
-same-spaces m n e f g = rw (e, f, g) refl
+same_spaces : (m n : Memory) → m.unique ≡ n.unique → m.register ≡ n.register → m.ram ≡ n.ram → m ≡ n
+same_spaces m n e f g = rw (e, f, g) refl
 
 module _ {weight : ℕ → ℕ} where
-  pub moved-spaces_none : (labels counts : Memory) → MovedSpaces weight labels labels counts counts
-  moved-spaces_none labels counts = record {
+  pub moved_spaces_none : (labels counts : Memory) → MovedSpaces weight labels labels counts counts
+  moved_spaces_none labels counts = record {
     unique = moved_none labels.unique counts.unique;
     register = moved_none labels.register counts.register;
     ram = moved_none labels.ram counts.ram;
   }
 
   -- one move after another, where the labels between have the lengths of those before
-  pub moved-spaces_on : {a b c counts counts' counts'' : Memory} → lengths_of b ≡ lengths_of a → MovedSpaces weight a b counts counts'
+  pub moved_spaces_on : {a b c counts counts' counts'' : Memory} → lengths_of b ≡ lengths_of a → MovedSpaces weight a b counts counts'
       → MovedSpaces weight b c counts' counts'' → MovedSpaces weight a c counts counts''
   unfolding lengths_of
-  moved-spaces_on e p q = record {
+  moved_spaces_on e p q = record {
     unique = moved_on p.unique (rw (ap (λ (x : Lengths). x.unique) e) at q.unique);
     register = moved_on p.register (rw (ap (λ (x : Lengths). x.register) e) at q.register);
     ram = moved_on p.ram (rw (ap (λ (x : Lengths). x.ram) e) at q.ram);
   }
 
-  pub moved-spaces_told : {a b counts first second : Memory} → WordsOf first → WordsOf second → MovedSpaces weight a b counts first
+  pub moved_spaces_told : {a b counts first second : Memory} → WordsOf first → WordsOf second → MovedSpaces weight a b counts first
       → MovedSpaces weight a b counts second → first ≡ second
   unfolding space_of
-  moved-spaces_told {first} {second} wf ws p q =
-      same-spaces first second (moved_told (wf 2) (ws 2) p.unique q.unique) (moved_told (wf 3) (ws 3) p.register q.register)
+  moved_spaces_told {first} {second} wf ws p q =
+      same_spaces first second (moved_told (wf 2) (ws 2) p.unique q.unique) (moved_told (wf 3) (ws 3) p.register q.register)
       (moved_told (wf 4) (ws 4) p.ram q.ram)
 
-  pub moved-spaces_lengths : {a b counts counts' : Memory} → MovedSpaces weight a b counts counts' → lengths_of counts' ≡ lengths_of counts
+  pub moved_spaces_lengths : {a b counts counts' : Memory} → MovedSpaces weight a b counts counts' → lengths_of counts' ≡ lengths_of counts
   unfolding lengths_of
-  moved-spaces_lengths p = rw (p.unique.same_length, p.register.same_length, p.ram.same_length) refl
+  moved_spaces_lengths p = rw (p.unique.same_length, p.register.same_length, p.ram.same_length) refl
 
 -- counts that fit, space by space
 pub counts_fit_lem : (lengths words : Lengths) → counts_fit lengths words ≡ true
@@ -82,7 +82,7 @@ after-moved before after counts e t =
   where
     in_space_lem : (before after counts : List ℕ) → length after ≡ length before → count_words (length before) ≤ length counts
         → Moved secret_weight (length before) 0 before after counts (counts_changed before after counts)
-    in_space_lem before after counts e long = changed-moved (length before) 0 before after counts e (omega arith) long
+    in_space_lem before after counts e long = changed_moved (length before) 0 before after counts e (omega arith) long
 
 -- space by space
 pub space_lengths : (m n : Memory) → lengths_of m ≡ lengths_of n → (space : ℕ) → length (space_of m space) ≡ length (space_of n space)

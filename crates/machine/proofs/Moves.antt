@@ -13,9 +13,9 @@ use Rattle.word.specs.Sum.{tabulate, digit}
 use Rattle.word.specs.Word.{significance, value_of, bytes_of}
 use Rattle.word.proofs.Sums.{tabulate_is, tabulate_at, tabulate_past, tabulate-length}
 use Rattle.word.proofs.Laws.{significance_lt, significance_twice, part_length, part_bytes, bytes-length, bytes_at_lem, written_read}
-use Rattle.word.proofs.Shifts.{bytes-mod, digit_past, digit-div, digit_joined}
+use Rattle.word.proofs.Shifts.{bytes_mod, digit_past, digit-div, digit_joined}
 use Rattle.integer.specs.Operations.{int_sext}
-use Rattle.integer.proofs.Extension.{sext-digit}
+use Rattle.integer.proofs.Extension.{sext_digit}
 use Rattle.operation.specs.declared.layout.Settings.{Settings}
 use Rattle.operation.specs.declared.layout.Varnode.{Varnode}
 use Rattle.machine.specs.Program.{big_endian}
@@ -148,7 +148,7 @@ module _ (settings : Settings) (op : Operation) (m : Memory) (n : ℕ) (v : Varn
   -- SUBPIECE: n bytes are written of the number that is left
   pub moved-part : (k : ℕ) → eqb op.opcode 20 ≡ false → dropped op ≡ k
       → bytes_written settings op n (v ∷ []) m ≡ bytes_of (big_endian settings) n (value_at settings m v / 256 ^ k % 256 ^ n)
-  moved-part k n20 d = moved_from k n20 d ∙ bytes-mod (big_endian settings) n (value_at settings m v / 256 ^ k)
+  moved-part k n20 d = moved_from k n20 d ∙ bytes_mod (big_endian settings) n (value_at settings m v / 256 ^ k)
 
   -- INT_SEXT
   pub moved_extended : op.opcode ≡ 20 → 1 ≤ v.size → v.size < n
@@ -158,7 +158,7 @@ module _ (settings : Settings) (op : Operation) (m : Memory) (n : ℕ) (v : Varn
       written_is settings op m n (int_sext n v.size (value_at settings m v)) (v ∷ []) e
       (λ k l. extended op sign_fill (digits_of settings m (v ∷ [])) k e20
       ∙ rw (one_source, bytes-length, entry v.size (value_at settings m v) k h, entry v.size (value_at settings m v) (v.size - 1) h)
-      (sym (sext-digit n v.size (value_at settings m v) some larger h k l)))
+      (sym (sext_digit n v.size (value_at settings m v) some larger h k l)))
 
 -- PIECE: u above v
 module _ (settings : Settings) (op : Operation) (m : Memory) (u v : Varnode) (b : OfBytes m) where
@@ -168,9 +168,9 @@ module _ (settings : Settings) (op : Operation) (m : Memory) (u v : Varnode) (b 
   abbrev y : ℕ
   y = value_at settings m v
 
-  two-sources : digits_of settings m (v ∷ u ∷ []) ≡ bytes_of false v.size y ++ bytes_of false u.size x
+  two_sources : digits_of settings m (v ∷ u ∷ []) ≡ bytes_of false v.size y ++ bytes_of false u.size x
   unfolding digits_of
-  two-sources =
+  two_sources =
       ap (λ (ds : List ℕ). digits_at settings m v ++ ds) (append-nil (digits_at settings m u)) ∙ rw (digits_of_lem settings m u b, digits_of_lem settings m v b) refl
 
   pub moved_both : (n : ℕ) → moves op ≡ true → eqb op.opcode 20 ≡ false → dropped op ≡ 0 → x < 256 ^ u.size → y < 256 ^ v.size
@@ -178,7 +178,7 @@ module _ (settings : Settings) (op : Operation) (m : Memory) (u v : Varnode) (b 
   moved_both n e n20 d hu hv =
       written_is settings op m n (x * 256 ^ v.size + y) (v ∷ u ∷ []) e
       (λ k l. taken op sign_fill (digits_of settings m (v ∷ u ∷ [])) k n20
-      ∙ rw (d, zero-add k, two-sources) (joined_at (bytes_of false v.size y) (bytes_of false u.size x) k ∙ rw bytes-length (by k (ltb k v.size) refl) ∙ sym (digit_joined v.size x y hv k)))
+      ∙ rw (d, zero-add k, two_sources) (joined_at (bytes_of false v.size y) (bytes_of false u.size x) k ∙ rw bytes-length (by k (ltb k v.size) refl) ∙ sym (digit_joined v.size x y hv k)))
     where
       by : (k : ℕ) (t : Bool) → ltb k v.size ≡ t
           → cond t (get_or (bytes_of false v.size y) k 0) (get_or (bytes_of false u.size x) (k - v.size) 0) ≡ cond t (digit 256 y k) (digit 256 x (k - v.size))

@@ -22,7 +22,7 @@ use Rattle.machine.specs.Run.{Stop, Decision, Position, Ended, Stepped, ending_o
 use Rattle.machine.specs.Calls.{Outcome, unlabelled, labelled_outcome, refusal, log_after, outcome_of, starting, called, labelled_run, plain_run}
 use Rattle.machine.specs.Pinned.{Answers, Pinned}
 use Rattle.machine.proofs.Cases.{either}
-use Rattle.machine.proofs.Plain.{nothing-secret, nothing_written}
+use Rattle.machine.proofs.Plain.{nothing_secret, nothing_written}
 use Rattle.machine.proofs.Refusals.{Known, none, known, found_known}
 use Rattle.machine.proofs.Counts.{not_refused}
 use Rattle.machine.proofs.Runs.{run_laws}
@@ -104,9 +104,9 @@ stop_bounds : NoLeak (Decision.stop Stop.bounds)
 unfolding ending_of
 stop_bounds = stops {e = Stop.bounds} (not_31 32 refl)
 
-stop-zero : NoLeak (Decision.stop Stop.zero_divisor)
+stop_zero : NoLeak (Decision.stop Stop.zero_divisor)
 unfolding ending_of
-stop-zero = stops {e = Stop.zero_divisor} (not_31 33 refl)
+stop_zero = stops {e = Stop.zero_divisor} (not_31 33 refl)
 
 logging_public : (room word : ℕ) (d : List ℕ → Decision) → ((words : List ℕ) → NoLeak (d words)) → NoLeak (logging room word d)
 unfolding logging ending_of
@@ -131,7 +131,7 @@ checked_public Kind.cbranch op i extent room x =
 checked_public Kind.jump op i extent room x = exited
 checked_public Kind.piece op i extent room x = nexts
 checked_public Kind.subpiece op i extent room x = nexts
-checked_public Kind.divide op i extent room x = either NoLeak (eqb x 0) _ _ stop-zero nexts
+checked_public Kind.divide op i extent room x = either NoLeak (eqb x 0) _ _ stop_zero nexts
 checked_public Kind.compute op i extent room x = nexts
 
 data Public : Stepped → Type 0 where
@@ -148,7 +148,7 @@ applied_public program k op at m x exited = halts (not_31 1 refl)
 stepped_public : (program : Program) (at : Position) (m : Memory) → Public (stepped program at unlabelled m)
 unfolding stepped execute execute_as decided ended
 stepped_public program at m =
-    rw nothing-secret
+    rw nothing_secret
     (either Public (ltb at.index (operation_count program.list)) _ _
     (applied_public program _ (operation_at program.list at.index) at m _ (checked_public _ (operation_at program.list at.index) at.index _ at.room _))
     (halts (not_31 0 refl)))
@@ -177,10 +177,10 @@ plain_refusals settings lengths list start =
     (either P (not (eqb found.rule 0)) _ _ (not_leak (found_known settings.address_size lengths list))
     (either P (ltb (operation_count list) start) _ _ (λ e. omega arith, λ e. omega arith) (λ e. omega arith, λ e. omega arith))))
 
-never-leaks : (settings : Settings) (list : List ℕ) (start budget : ℕ) (log : List ℕ) (m : Memory)
+never_leaks : (settings : Settings) (list : List ℕ) (start budget : ℕ) (log : List ℕ) (m : Memory)
     → ((plain_run settings list start budget log m).report.ending ≡ 31 → ⊥) × ((plain_run settings list start budget log m).report.ending ≡ 12 → ⊥)
 unfolding plain_run called outcome_of
-never-leaks settings list start budget log m =
+never_leaks settings list start budget log m =
     let at = starting start (length log) in
     either (λ (o : Outcome). (o.report.ending ≡ 31 → ⊥) × (o.report.ending ≡ 12 → ⊥)) (eqb (refusal settings (lengths_of m) list start true true).ending 0) _ _
     (run_public (program_of settings list) budget at m, λ e. not_refused ((run_laws (program_of settings list)).counts budget at unlabelled m).ending (omega arith) (omega arith))
@@ -194,5 +194,5 @@ pinned = record {
   labelled_refused = λ settings list start budget log labels m. called_refused settings list start budget log labels m _;
   plain_refused = λ settings list start budget log m. called_refused settings list start budget log unlabelled m _;
   no_index = no_index;
-  never_leaks = never-leaks;
+  never_leaks = never_leaks;
 }

@@ -33,15 +33,15 @@ unlabelled_with : (space : ℕ) → with_space unlabelled space [] ≡ unlabelle
 unfolding unlabelled with_space
 unlabelled_with space = either_equal (eqb space 2) refl (either_equal (eqb space 3) refl (either_equal (eqb space 4) refl refl))
 
-pub none-secret : (n : ℕ) (f : ℕ → ℕ) → ((i : ℕ) → f i ≡ 0) → any_secret (tabulate n f) ≡ false
+pub none_secret : (n : ℕ) (f : ℕ → ℕ) → ((i : ℕ) → f i ≡ 0) → any_secret (tabulate n f) ≡ false
 unfolding tabulate any_secret
-none-secret zero f h = refl
-none-secret (suc n) f h = rw (h 0) (none-secret n _ (λ i. h (suc i)))
+none_secret zero f h = refl
+none_secret (suc n) f h = rw (h 0) (none_secret n _ (λ i. h (suc i)))
 
-pub nothing-secret : (vs : List Varnode) → secret unlabelled vs ≡ false
+pub nothing_secret : (vs : List Varnode) → secret unlabelled vs ≡ false
 unfolding secret bytes_at part
-nothing-secret [] = refl
-nothing-secret (v ∷ vs) = rw (unlabelled_space, none-secret v.size (λ i. 0) (λ i. refl)) (nothing-secret vs)
+nothing_secret [] = refl
+nothing_secret (v ∷ vs) = rw (unlabelled_space, none_secret v.size (λ i. 0) (λ i. refl)) (nothing_secret vs)
 
 sets-nil : (i : ℕ) (xs : List ℕ) → sets [] i xs ≡ []
 sets-nil i [] = refl
@@ -79,7 +79,7 @@ module _ (program : Program) (labels m : Memory) where
   pub stepped_same : (at : Position) → SameSteps (stepped program at unlabelled m) (stepped program at labels m)
   unfolding stepped execute execute_as
   stepped_same at =
-      rw nothing-secret
+      rw nothing_secret
       (either₂ SameSteps (ltb at.index (operation_count program.list)) _ _ _ _ (decided_same _ _ (operation_at program.list at.index) at _ _ _ _) (halts (ended_same 0 0 at)))
 
 continued_same : (f : Position → Memory → Memory → Ended)

@@ -25,13 +25,13 @@ pub record Spaces (R : ℕ → ℕ → ℕ → Type 0) (x y z : Memory) : Type 0
   pub ram : Each R x.ram y.ram z.ram
 
 module _ {R : ℕ → ℕ → ℕ → Type 0} where
-  pub each-length : {ls a b : List ℕ} → Each R ls a b → length a ≡ length b
-  each-length Each.empty = refl
-  each-length (Each.entry e r) = ap suc (each-length r)
+  pub each_length : {ls a b : List ℕ} → Each R ls a b → length a ≡ length b
+  each_length Each.empty = refl
+  each_length (Each.entry e r) = ap suc (each_length r)
 
-  pub each_label-length : {ls a b : List ℕ} → Each R ls a b → length ls ≡ length a
-  each_label-length Each.empty = refl
-  each_label-length (Each.entry e r) = ap suc (each_label-length r)
+  pub each_label_length : {ls a b : List ℕ} → Each R ls a b → length ls ≡ length a
+  each_label_length Each.empty = refl
+  each_label_length (Each.entry e r) = ap suc (each_label_length r)
 
   pub each_at : R 0 0 0 → {ls a b : List ℕ} → Each R ls a b → (i : ℕ) → R (get_or ls i 0) (get_or a i 0) (get_or b i 0)
   each_at z Each.empty i = z
@@ -48,32 +48,32 @@ module _ {R : ℕ → ℕ → ℕ → Type 0} where
   each_from (l ∷ ls) (x ∷ a) (y ∷ b) p q h =
       Each.entry (h 0 (omega arith)) (each_from ls a b (omega arith) (omega arith) (λ i k. h (suc i) (omega arith)))
 
-  pub each-tabulate : (n : ℕ) (f g h : ℕ → ℕ) → ((i : ℕ) → R (f i) (g i) (h i)) → Each R (tabulate n f) (tabulate n g) (tabulate n h)
+  pub each_tabulate : (n : ℕ) (f g h : ℕ → ℕ) → ((i : ℕ) → R (f i) (g i) (h i)) → Each R (tabulate n f) (tabulate n g) (tabulate n h)
   unfolding tabulate
-  each-tabulate zero f g h r = Each.empty
-  each-tabulate (suc n) f g h r = Each.entry (r 0) (each-tabulate n _ _ _ (λ i. r (suc i)))
+  each_tabulate zero f g h r = Each.empty
+  each_tabulate (suc n) f g h r = Each.entry (r 0) (each_tabulate n _ _ _ (λ i. r (suc i)))
 
   pub each_append : {ls a b xs us ws : List ℕ} → Each R ls a b → Each R xs us ws → Each R (ls ++ xs) (a ++ us) (b ++ ws)
   each_append Each.empty q = q
   each_append (Each.entry e r) q = Each.entry e (each_append r q)
 
   -- by significance
-  pub each-ordered : R 0 0 0 → (big : Bool) {ls a b : List ℕ} → Each R ls a b → Each R (ordered big ls) (ordered big a) (ordered big b)
+  pub each_ordered : R 0 0 0 → (big : Bool) {ls a b : List ℕ} → Each R ls a b → Each R (ordered big ls) (ordered big a) (ordered big b)
   unfolding ordered
-  each-ordered z big r = rw (each_label-length r, each-length r) (each-tabulate _ _ _ _ (λ i. each_at z r _))
+  each_ordered z big r = rw (each_label_length r, each_length r) (each_tabulate _ _ _ _ (λ i. each_at z r _))
 
   each_part : R 0 0 0 → {ls a b : List ℕ} → Each R ls a b → (at n : ℕ) → Each R (part ls at n) (part a at n) (part b at n)
   unfolding part
-  each_part z r at n = each-tabulate n _ _ _ (λ i. each_at z r (at + i))
+  each_part z r at n = each_tabulate n _ _ _ (λ i. each_at z r (at + i))
 
   each_set : {ls a b : List ℕ} → Each R ls a b → (i : ℕ) {x u w : ℕ} → R x u w → Each R (set ls i x) (set a i u) (set b i w)
   each_set Each.empty i h = Each.empty
   each_set (Each.entry e r) zero h = Each.entry h r
   each_set (Each.entry e r) (suc i) h = Each.entry e (each_set r i h)
 
-  each-sets : {ls a b xs us ws : List ℕ} → Each R ls a b → (i : ℕ) → Each R xs us ws → Each R (sets ls i xs) (sets a i us) (sets b i ws)
-  each-sets r i Each.empty = r
-  each-sets r i (Each.entry h t) = each-sets (each_set r i h) (suc i) t
+  each_sets : {ls a b xs us ws : List ℕ} → Each R ls a b → (i : ℕ) → Each R xs us ws → Each R (sets ls i xs) (sets a i us) (sets b i ws)
+  each_sets r i Each.empty = r
+  each_sets r i (Each.entry h t) = each_sets (each_set r i h) (suc i) t
 
   pub spaces_space : {x y z : Memory} → Spaces R x y z → (space : ℕ) → Each R (space_of x space) (space_of y space) (space_of z space)
   unfolding space_of
@@ -95,8 +95,8 @@ module _ {R : ℕ → ℕ → ℕ → Type 0} where
   pub spaces-written : {x y z : Memory} → Spaces R x y z → (v : Varnode) {ls a b : List ℕ} → Each R ls a b
       → Spaces R (written x v ls) (written y v a) (written z v b)
   unfolding written
-  spaces-written r v q = spaces_with r v.space (each-sets (spaces_space r v.space) v.offset q)
+  spaces-written r v q = spaces_with r v.space (each_sets (spaces_space r v.space) v.offset q)
 
   pub spaces_lengths : {x y z : Memory} → Spaces R x y z → lengths_of y ≡ lengths_of z
   unfolding lengths_of
-  spaces_lengths r = rw (each-length r.unique, each-length r.register, each-length r.ram)
+  spaces_lengths r = rw (each_length r.unique, each_length r.register, each_length r.ram)

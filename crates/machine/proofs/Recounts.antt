@@ -35,15 +35,15 @@ use Rattle.machine.proofs.Runs.{stepped_laws, run_laws, started_kept}
 use Rattle.machine.proofs.Resume.{outcome_resumed}
 use Rattle.machine.proofs.Pinned.{lent_word}
 use Rattle.machine.proofs.Conditions.{each_space}
-use Rattle.machine.proofs.MovedCounts.{moved-spaces_lengths, counts_fit_lem, space_lengths, after_space}
-use Rattle.machine.proofs.CountedRuns.{Turns, none, more, turns_lengths, turns-words, turns-moved, run-moves, run_turned, counts_restarted}
+use Rattle.machine.proofs.MovedCounts.{moved_spaces_lengths, counts_fit_lem, space_lengths, after_space}
+use Rattle.machine.proofs.CountedRuns.{Turns, none, more, turns_lengths, turns_words, turns_moved, run-moves, run_turned, counts_restarted}
 
 -- ---- of three spaces
 
-turned-spaces : {before after counts counts' : Memory} → lengths_of after ≡ lengths_of before → MovedSpaces secret_weight before after counts counts'
+turned_spaces : {before after counts counts' : Memory} → lengths_of after ≡ lengths_of before → MovedSpaces secret_weight before after counts counts'
     → TurnedAll before after counts counts'
 unfolding space_of
-turned-spaces {before} {after} {counts} {counts'} e p =
+turned_spaces {before} {after} {counts} {counts'} e p =
     let same = space_lengths after before e in
     each_space (λ (space : ℕ). Turned (space_of before space) (space_of after space) (space_of counts space) (space_of counts' space))
     (turned_of (same 2) p.unique) (turned_of (same 3) p.register) (turned_of (same 4) p.ram)
@@ -91,12 +91,12 @@ pub left-run : {labels labels' counts counts' : Memory} (m : Memory) (list : Lis
     → CountsLeft labels labels' counts counts'
 left-run {labels} {counts} m list r t p =
     let f = labels_fit labels m counts t in
-    let q = turns-moved f.1 p in
+    let q = turns_moved f.1 p in
     record {
       lengths = turns_lengths p;
-      count_lengths = moved-spaces_lengths q;
-      turned = turned-spaces (turns_lengths p) q;
-      words = turns-words p;
+      count_lengths = moved_spaces_lengths q;
+      turned = turned_spaces (turns_lengths p) q;
+      words = turns_words p;
       true_counts = turns_true list (rw f.0 r) p;
     }
 
@@ -168,15 +168,15 @@ module _ (settings : Settings) (list : List ℕ) (start budget : ℕ) (log : Lis
   unfolding counted_refusal
   call_accepted t = accepted settings (lengths_of m) list start _ (labels_in_range labels) t
 
-  ran-left : eqb refused.ending 0 ≡ true → CountsLeft labels ran.labels counts ran_counts
-  ran-left t = let a = call_accepted t in left-run m list a.lengths_right a.labels_fit (run_turned program budget from labels m counts)
+  ran_left : eqb refused.ending 0 ≡ true → CountsLeft labels ran.labels counts ran_counts
+  ran_left t = let a = call_accepted t in left-run m list a.lengths_right a.labels_fit (run_turned program budget from labels m counts)
 
-  call-left : CountsLeft labels call.outcome.labels counts call.counts
+  call_left : CountsLeft labels call.outcome.labels counts call.counts
   unfolding counted_run called outcome_of
-  call-left = by (eqb refused.ending 0) refl
+  call_left = by (eqb refused.ending 0) refl
     where
       by : (t : Bool) → eqb refused.ending 0 ≡ t → CountsLeft labels (left t).outcome.labels counts (left t).counts
-      by true t = ran-left t
+      by true t = ran_left t
       by false t = left_lent labels counts
 
   call_refused : 10 ≤ call.outcome.report.ending → call.outcome.report.ending ≤ 27 → call.counts ≡ counts
@@ -194,11 +194,11 @@ module _ (settings : Settings) (list : List ℕ) (start budget : ℕ) (log : Lis
   again_running t e =
       let a = call_accepted t in
       let k = started_kept (run_laws program) start budget log labels m in
-      rw (k.memory, k.lengths, (ran-left t).count_lengths, k.values a.labels_right) (restarted a ran.position.index ((run_laws program).index budget from labels m e))
+      rw (k.memory, k.lengths, (ran_left t).count_lengths, k.values a.labels_right) (restarted a ran.position.index ((run_laws program).index budget from labels m e))
 
-pub counts_of-labelled_runs : CountsOfLabelledRuns
-counts_of-labelled_runs settings list start budget log labels m counts =
-    let l = call-left settings list start budget log labels m counts in
+pub counts_of_labelled_runs : CountsOfLabelledRuns
+counts_of_labelled_runs settings list start budget log labels m counts =
+    let l = call_left settings list start budget log labels m counts in
     record {
       others = call_others settings list start budget log labels m counts;
       setting = call_setting settings list start budget log labels m counts;
@@ -221,8 +221,8 @@ counted_noninterference settings list start budget log log' e labels first secon
       runs = runs;
       first_plain = rw one shown.first_plain;
       second_plain = rw two shown.second_plain;
-      same_counts = same_counts (call-left settings list start budget log labels first counts)
-          (rw (← runs.labels) at (call-left settings list start budget log' labels second counts'));
+      same_counts = same_counts (call_left settings list start budget log labels first counts)
+          (rw (← runs.labels) at (call_left settings list start budget log' labels second counts'));
     }
 
 -- ---- resuming

@@ -87,21 +87,21 @@ pub record Accepted (settings : Settings) (lengths : Lengths) (list : List ℕ) 
   pub start_inside : start ≤ operation_count list
 
 -- a refusal that was not called for, and the refusals after it
-not-called_for : (t : Bool) (n i : ℕ) (rest : Report) → (t ≡ true → n ≡ 0 → ⊥) → (cond t (refusal_report n i) rest).ending ≡ 0 → (t ≡ false) × (rest.ending ≡ 0)
+not_called_for : (t : Bool) (n i : ℕ) (rest : Report) → (t ≡ true → n ≡ 0 → ⊥) → (cond t (refusal_report n i) rest).ending ≡ 0 → (t ≡ false) × (rest.ending ≡ 0)
 unfolding refusal_report
-not-called_for true n i rest h e = absurd (h refl e)
-not-called_for false n i rest h e = (refl, e)
+not_called_for true n i rest h e = absurd (h refl e)
+not_called_for false n i rest h e = (refl, e)
 
 pub accepted : (settings : Settings) (lengths : Lengths) (list : List ℕ) (start : ℕ) (fitting valid : Bool)
     → eqb (refusal settings lengths list start fitting valid).ending 0 ≡ true → Accepted settings lengths list start fitting valid
 unfolding refusal
 accepted settings lengths list start fitting valid e =
     let found = malformed settings.address_size lengths list in
-    let t1 = not-called_for (not (settings_in_range settings)) 10 0 _ (λ h z. omega (arith, z)) (eqb-true _ 0 e) in
-    let t2 = not-called_for (not (lengths_in_range lengths list && fitting)) 11 0 _ (λ h z. omega (arith, z)) t1.1 in
-    let t3 = not-called_for (not valid) 12 0 _ (λ h z. omega (arith, z)) t2.1 in
-    let t4 = not-called_for (not (eqb found.rule 0)) found.rule found.index _ (λ h. eqb-false found.rule 0 (not-true _ h)) t3.1 in
-    let t5 = not-called_for (ltb (operation_count list) start) 27 0 (refusal_report 0 0) (λ h z. omega (arith, z)) t4.1 in
+    let t1 = not_called_for (not (settings_in_range settings)) 10 0 _ (λ h z. omega (arith, z)) (eqb-true _ 0 e) in
+    let t2 = not_called_for (not (lengths_in_range lengths list && fitting)) 11 0 _ (λ h z. omega (arith, z)) t1.1 in
+    let t3 = not_called_for (not valid) 12 0 _ (λ h z. omega (arith, z)) t2.1 in
+    let t4 = not_called_for (not (eqb found.rule 0)) found.rule found.index _ (λ h. eqb-false found.rule 0 (not-true _ h)) t3.1 in
+    let t5 = not_called_for (ltb (operation_count list) start) 27 0 (refusal_report 0 0) (λ h z. omega (arith, z)) t4.1 in
     let l = both (lengths_in_range lengths list) fitting (not-false _ t2.0) in
     record {
       settings_right = not-false _ t1.0;

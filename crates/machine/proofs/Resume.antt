@@ -44,10 +44,10 @@ outcome_summed log r q = record {
   log = log_summed r.position.log q.position.log log;
 }
 
-pub room-left : (log : List ℕ) (at : Position) → at.room + length at.log ≡ length log
+pub room_left : (log : List ℕ) (at : Position) → at.room + length at.log ≡ length log
     → starting at.index (length (drop (length at.log) (log_after at.log log))) ≡ fresh at
 unfolding starting fresh log_after
-room-left log at e =
+room_left log at e =
     let left : length log - length at.log ≡ at.room = omega (arith, e) in
     rw (drop-append_seam at.log (drop (length at.log) log), length-drop (length at.log) log, left)
 
@@ -60,7 +60,7 @@ pub outcome_resumed : {program : Program} {R : ℕ → Position → Memory → M
     → Summed (outcome_of log r) (outcome_of left (R c (starting r.position.index (length left)) r.labels r.memory)) (outcome_of log (R (b + c) (starting start (length log)) labels m)))
 outcome_resumed {R} laws start b c log labels m e =
     let r = R b (starting start (length log)) labels m in
-    rw (room-left log r.position (started_kept laws start b log labels m).log, resumed laws b c (starting start (length log)) labels m e)
+    rw (room_left log r.position (started_kept laws start b log labels m).log, resumed laws b c (starting start (length log)) labels m e)
     (outcome_summed log r (R c (fresh r.position) r.labels r.memory))
 
 -- ---- the calls
@@ -76,11 +76,11 @@ module _ (settings : Settings) (list : List ℕ) (start b c : ℕ) (log : List �
   whole budget = run (program_of settings list) budget (starting start (length log)) labels m
 
   -- a second call that is not refused
-  resumed-run : (whole b).ending ≡ 2
+  resumed_run : (whole b).ending ≡ 2
       → Summed (outcome_of log (whole b))
       (called settings list (whole b).position.index c (drop (length (whole b).position.log) (log_after (whole b).position.log log)) (whole b).labels (whole b).memory (refusal_report 0 0))
       (outcome_of log (whole (b + c)))
-  resumed-run e =
+  resumed_run e =
       rw (called_running settings list (whole b).position.index c (drop (length (whole b).position.log) (log_after (whole b).position.log log)) (whole b).labels (whole b).memory)
       (outcome_resumed (run_laws (program_of settings list)) start b c log labels m e)
 
@@ -106,7 +106,7 @@ labelled_resumes settings list start b c log labels m = by (eqb refused.ending 0
         let i = (run_laws (program_of settings list)).index b (starting start (length log)) labels m e in
         let a = accepted settings (lengths_of m) list start (same_lengths (lengths_of labels) (lengths_of m)) (labels_in_range labels) t in
         let k = started_kept (run_laws (program_of settings list)) start b log labels m in
-        rw (k.memory, k.lengths, k.values a.labels_right, restarted a r.position.index i) (resumed-run settings list start b c log labels m e)
+        rw (k.memory, k.lengths, k.values a.labels_right, restarted a r.position.index i) (resumed_run settings list start b c log labels m e)
     by false t e = absurd (not_stopped (refusal_refuses settings (lengths_of m) list start (same_lengths (lengths_of labels) (lengths_of m)) (labels_in_range labels)) e)
 
 no_length : (l : List ℕ) → length l ≡ 0 → l ≡ []
@@ -145,7 +145,7 @@ plain_resumes settings list start b c log m = by (eqb refused.ending 0) refl
         let i = (run_laws (program_of settings list)).index b (starting start (length log)) unlabelled m e in
         let again = restarted (accepted settings (lengths_of m) list start true true t) r.position.index i in
         let k = started_kept (run_laws (program_of settings list)) start b log unlabelled m in
-        let s = resumed-run settings list start b c log unlabelled m e in
+        let s = resumed_run settings list start b c log unlabelled m e in
         rw (k.memory, again)
         (subst (λ (l : Memory). Summed (runs b)
         (called settings list r.position.index c (drop (length r.position.log) (log_after r.position.log log)) l r.memory (refusal_report 0 0)) (runs (b + c)))

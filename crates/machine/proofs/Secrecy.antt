@@ -20,7 +20,7 @@ use Rattle.machine.specs.Memory.{Memory, bytes_at, value_at, ordered, digits_at}
 use Rattle.machine.specs.Effect.{Operation, Kind, operation_at, sinks, tested, resolved, moves, Origin, entry_from, moved, sign_fill, digits_of, values_of, computed, bytes_written}
 use Rattle.machine.specs.Effect.{any_secret, secret, labels_of, label_fill, labels_written}
 use Rattle.machine.specs.Run.{Decision, Position, Ended, Stepped, decided, checked, ended, resolved_value, apply_decision, execute_as, execute, stepped, continued, run}
-use Rattle.machine.proofs.Pointwise.{Each, Spaces, each-length, each_label-length, each_at, each-tabulate, each_append, each-ordered, spaces_space, spaces_at, spaces-written}
+use Rattle.machine.proofs.Pointwise.{Each, Spaces, each_length, each_label_length, each_at, each_tabulate, each_append, each_ordered, spaces_space, spaces_at, spaces-written}
 use Rattle.machine.proofs.Cases.{either₂, either₃}
 use Rattle.machine.proofs.Moves.{length-ordered, bytes_count}
 
@@ -87,24 +87,24 @@ tested_public labels Kind.compute op h = absent_bytes labels
 
 -- ---- moved bytes, with their labels
 
-entry-view : {ls a b : List ℕ} → Each Public ls a b → (o : Origin) → Public (entry_from label_fill ls o) (entry_from sign_fill a o) (entry_from sign_fill b o)
+entry_view : {ls a b : List ℕ} → Each Public ls a b → (o : Origin) → Public (entry_from label_fill ls o) (entry_from sign_fill a o) (entry_from sign_fill b o)
 unfolding entry_from label_fill
-entry-view r (Origin.read k) = each_at (λ e. refl) r k
-entry-view r Origin.zeros = λ e. refl
-entry-view r (Origin.filled k) = λ e. ap sign_fill (each_at (λ z. refl) r k e)
+entry_view r (Origin.read k) = each_at (λ e. refl) r k
+entry_view r Origin.zeros = λ e. refl
+entry_view r (Origin.filled k) = λ e. ap sign_fill (each_at (λ z. refl) r k e)
 
 moved_view : (big : Bool) (op : Operation) (size : ℕ) {ls a b : List ℕ} → Each Public ls a b
     → Each Public (moved big op size label_fill ls) (moved big op size sign_fill a) (moved big op size sign_fill b)
 unfolding moved
-moved_view big op size r = rw (each_label-length r, each-length r) (each-tabulate size _ _ _ (λ i. entry-view r _))
+moved_view big op size r = rw (each_label_length r, each_length r) (each_tabulate size _ _ _ (λ i. entry_view r _))
 
 module _ {labels m n : Memory} (r : Spaces Public labels m n) where
   public_bytes : (v : Varnode) → any_secret (bytes_at labels v) ≡ false → bytes_at m v ≡ bytes_at n v
   public_bytes v h = public_same (spaces_at (λ e. refl) r v) h
 
-  digits-view : (settings : Settings) (v : Varnode) → Each Public (ordered (big_endian settings) (bytes_at labels v)) (digits_at settings m v) (digits_at settings n v)
+  digits_view : (settings : Settings) (v : Varnode) → Each Public (ordered (big_endian settings) (bytes_at labels v)) (digits_at settings m v) (digits_at settings n v)
   unfolding digits_at
-  digits-view settings v = by (eqb v.space 1)
+  digits_view settings v = by (eqb v.space 1)
     where
       big : Bool
       big = big_endian settings
@@ -114,12 +114,12 @@ module _ {labels m n : Memory} (r : Spaces Public labels m n) where
 
       by : (t : Bool) → Each Public (ordered big (bytes_at labels v)) (cond t number (ordered big (bytes_at m v))) (cond t number (ordered big (bytes_at n v)))
       by true = same _ _ (length-ordered big (bytes_at labels v) ∙ bytes_count labels v ∙ sym (bytes-length false v.size v.offset))
-      by false = each-ordered (λ e. refl) big (spaces_at (λ e. refl) r v)
+      by false = each_ordered (λ e. refl) big (spaces_at (λ e. refl) r v)
 
   all_digits-view : (settings : Settings) (vs : List Varnode) → Each Public (labels_of settings labels vs) (digits_of settings m vs) (digits_of settings n vs)
   unfolding digits_of labels_of
   all_digits-view settings [] = Each.empty
-  all_digits-view settings (v ∷ vs) = each_append (digits-view settings v) (all_digits-view settings vs)
+  all_digits-view settings (v ∷ vs) = each_append (digits_view settings v) (all_digits-view settings vs)
 
   public_value : (settings : Settings) (v : Varnode) → any_secret (bytes_at labels v) ≡ false → value_at settings m v ≡ value_at settings n v
   unfolding value_at
@@ -132,9 +132,9 @@ module _ {labels m n : Memory} (r : Spaces Public labels m n) where
       let e = neither (any_secret (bytes_at labels v)) (secret labels vs) h in
       rw (public_value settings v e.0, public_values settings vs e.1)
 
-  pub public-tested : (settings : Settings) (k : Kind) (op : Operation) → secret labels (sinks k op) ≡ false
+  pub public_tested : (settings : Settings) (k : Kind) (op : Operation) → secret labels (sinks k op) ≡ false
       → value_at settings m (tested k op) ≡ value_at settings n (tested k op)
-  public-tested settings k op h = public_value settings (tested k op) (tested_public labels k op h)
+  public_tested settings k op h = public_value settings (tested k op) (tested_public labels k op h)
 
   -- ---- one operation
 
@@ -162,25 +162,25 @@ module _ (program : Program) {labels m n : Memory} (r : Spaces Public labels m n
   unfolding ended
   ended-view e v at = record { ending = refl; value = refl; position = refl; labels = refl; memory = r }
 
-  applied-view : (k : Kind) (op : Operation) (at : Position) (x : ℕ) (d : Decision)
+  applied_view : (k : Kind) (op : Operation) (at : Position) (x : ℕ) (d : Decision)
       → SameSteps (apply_decision program k op at labels m x d) (apply_decision program k op at labels n x d)
   unfolding apply_decision
-  applied-view k op at x (Decision.stop e) = halts (ended-view _ 0 at)
-  applied-view k op at x (Decision.exit words d) = halts (ended-view 1 d _)
-  applied-view k op at x (Decision.next words i) = goes (spaces-written r _ (written-view r program.settings op _ _))
+  applied_view k op at x (Decision.stop e) = halts (ended-view _ 0 at)
+  applied_view k op at x (Decision.exit words d) = halts (ended-view 1 d _)
+  applied_view k op at x (Decision.next words i) = goes (spaces-written r _ (written-view r program.settings op _ _))
 
   -- what follows from the value tested is the same where it is public, and is LEAK where it is not
   decided-view : (t : Bool) (k : Kind) (op : Operation) (at : Position) (i extent room x y : ℕ) → (t ≡ false → x ≡ y)
       → SameSteps (apply_decision program k op at labels m x (decided t k op i extent room x)) (apply_decision program k op at labels n y (decided t k op i extent room y))
   unfolding decided apply_decision
   decided-view true k op at i extent room x y h = halts (ended-view _ 0 at)
-  decided-view false k op at i extent room x y h = rw (h refl) (applied-view k op at y (checked k op i extent room y))
+  decided-view false k op at i extent room x y h = rw (h refl) (applied_view k op at y (checked k op i extent room y))
 
   execute-view : (k : Kind) (op : Operation) (at : Position) → SameSteps (execute_as program k op at labels m) (execute_as program k op at labels n)
   unfolding execute_as resolved_value
   execute-view k op at =
-      rw (each-length (spaces_space r op.input0.offset))
-      (decided-view (secret labels (sinks k op)) k op at _ _ _ _ _ (λ e. ap (resolved program.settings k op) (public-tested r program.settings k op e)))
+      rw (each_length (spaces_space r op.input0.offset))
+      (decided-view (secret labels (sinks k op)) k op at _ _ _ _ _ (λ e. ap (resolved program.settings k op) (public_tested r program.settings k op e)))
 
   pub stepped-view : (at : Position) → SameSteps (stepped program at labels m) (stepped program at labels n)
   unfolding stepped execute

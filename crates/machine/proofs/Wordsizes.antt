@@ -32,9 +32,9 @@ use Rattle.machine.proofs.Conditions.{names, names_bytes, when, each_space, exac
 
 module _ (program : Program) (m : Memory) (op : Operation) where
   -- of LOAD and STORE
-  pub operand-access : accesses op.opcode ≡ true → operand1 program m op ≡ byte_offset program.settings op (value_at program.settings m op.input1)
+  pub operand_access : accesses op.opcode ≡ true → operand1 program m op ≡ byte_offset program.settings op (value_at program.settings m op.input1)
   unfolding operand1 accesses byte_offset
-  operand-access e = rw e refl
+  operand_access e = rw e refl
 
   -- of any other
   pub operand_other : accesses op.opcode ≡ false → operand1 program m op ≡ value_at program.settings m op.input1
@@ -70,7 +70,7 @@ old_operand : (program : Program) (m : Memory) (op : Operation)
 old_operand program m op h = by (accesses op.opcode) refl
   where
     by : (t : Bool) → accesses op.opcode ≡ t → operand1 program m op ≡ value_at program.settings m op.input1
-    by true e = operand-access program m op e ∙ by_one program.settings op _ (h e)
+    by true e = operand_access program m op e ∙ by_one program.settings op _ (h e)
     by false e = operand_other program m op e
 
 old_step : (program : Program) (op : Operation) (at : Position) (labels m : Memory)
@@ -89,11 +89,11 @@ named_one settings lengths list v one i inside a =
     let n = names_bytes (varnode_at list i 1) (names (opcode_at list i) (varnode_at list i 1) (w.placed 1 (omega arith)) a) in
     rw one (each_space (λ space. wordsize_of all_one space ≡ 1) refl refl refl (varnode_at list i 1).offset n.1 n.2)
 
-old-run : (program : Program) (budget : ℕ) (at : Position) (labels m : Memory) → program.settings.wordsizes ≡ all_one
+old_run : (program : Program) (budget : ℕ) (at : Position) (labels m : Memory) → program.settings.wordsizes ≡ all_one
     → Words program.list → OfBytes m → (verdict program.settings (lengths_of m) program.list).ending ≡ 0
     → run program budget at labels m ≡ continued (run program (budget - 1)) (bytewise_step_within program budget at labels m)
 unfolding exact_step_within bytewise_step_within
-old-run program budget at labels m one words bytes v =
+old_run program budget at labels m one words bytes v =
     exact_conditions program budget at labels m words bytes v ∙ ap (continued (run program (budget - 1))) (by (leb (operation_count program.list) at.index) refl)
   where
     op : Operation
@@ -116,7 +116,7 @@ old_setting settings one = rw one (by (leb settings.order 1 && is_size settings.
     by false = refl
 
 pub old_answers : OldAnswers
-old_answers = record { pointers = at_wordsize_one; operations = old_step; runs = old-run; setting = old_setting }
+old_answers = record { pointers = at_wordsize_one; operations = old_step; runs = old_run; setting = old_setting }
 
 -- ---- other wordsizes
 

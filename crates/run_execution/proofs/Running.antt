@@ -42,10 +42,10 @@ unfolding log_after
 log_is log₀ log k h = rw (length-take-le k log h.place, ← h.rest) (take-append-drop k log)
 
 module _ (log₀ log : List ℕ) (k w : ℕ) (h : Log log₀ log k) where
-  pushed-words : (due : Bool) → due && leb (length log) k ≡ false
+  pushed_words : (due : Bool) → due && leb (length log) k ≡ false
       → take (cond due (k + 1) k) (cond due (set log k w) log) ≡ take k log ++ cond due (w ∷ []) []
-  pushed-words true e = rw add-one (take-suc-set log k w (leb-false (length log) k e))
-  pushed-words false e = sym (append-nil (take k log))
+  pushed_words true e = rw add-one (take-suc-set log k w (leb-false (length log) k e))
+  pushed_words false e = sym (append-nil (take k log))
 
   drop_more : drop (suc k) log ≡ drop (suc k) log₀
   drop_more =
@@ -68,7 +68,7 @@ module _ (log₀ log : List ℕ) (k w : ℕ) (h : Log log₀ log k) where
 advanced_is : (log₀ : List ℕ) (i k executed next w : ℕ) (log : List ℕ) → Log log₀ log k → (due : Bool) → due && leb (length log) k ≡ false
     → advanced (position i k executed log) next (cond due (w ∷ []) []) ≡ position next (cond due (k + 1) k) (executed + 1) (cond due (set log k w) log)
 unfolding advanced position
-advanced_is log₀ i k executed next w log h due e = rw (pushed-words log₀ log k w h due e, room due e, add-one executed) refl
+advanced_is log₀ i k executed next w log h due e = rw (pushed_words log₀ log k w h due e, room due e, add-one executed) refl
   where
     room : (d : Bool) → d && leb (length log) k ≡ false → length (cond d (set log k w) log) - cond d (k + 1) k ≡ length log - k - length (cond d (w ∷ []) [])
     room true f = rw length-set (omega arith)

@@ -20,12 +20,12 @@ use Rattle.machine.specs.Program.{Program, program_of, big_endian}
 use Rattle.machine.specs.Memory.{Memory, lengths_of, space_of, bytes_at, value_at}
 use Rattle.machine.specs.Effect.{Operation, operation_at, byte_offset, pointee}
 use Rattle.machine.specs.Conditions.{operand1, exceeds_space, out_of_bounds, destination_bytes}
-use Rattle.machine.proofs.Wordsizes.{operand-access}
+use Rattle.machine.proofs.Wordsizes.{operand_access}
 use Rattle.run_memory.specs.Placed.{Placed}
 use Rattle.run_plan.specs.Valid.{Valid}
 use Rattle.run_plan.specs.Plans.{Addressable}
 use Rattle.run_plan.proofs.Bounds.{nowhere, destination_placed}
-use Rattle.run_plan.proofs.Places.{space-length, placed, movable, addressable}
+use Rattle.run_plan.proofs.Places.{space_length, placed, movable, addressable}
 use Rattle.run_plan.proofs.Pointers.{product_fits, product_is}
 use Rattle.run_journal.specs.Journal.{target_before}
 
@@ -58,7 +58,7 @@ module _ (settings : Settings) (m : Memory) (list : List ℕ) (i : ℕ) (v : Val
   -- the byte offset, by the pointer's value
   offset_is : b ≡ byte_offset settings op (value_at settings m (varnode_at list i 2))
   unfolding operation_at
-  offset_is = operand-access (program_of settings list) m op access
+  offset_is = operand_access (program_of settings list) m op access
 
   target_is : destination_bytes op b ≡ pointee op b (varnode_at list i 3).size
   unfolding destination_bytes operation_at
@@ -85,7 +85,7 @@ module _ (settings : Settings) (m : Memory) (list : List ℕ) (i : ℕ) (v : Val
     unfolding exceeds_space pointee operation_at
     outside_is =
         let f = product_fits settings m op at_pointer (opcode_at list i) (varnode_at list i 0) input0 input2 input2 refl refl e0 e2 sized pointer extent offset ee eo in
-        let l : extent ≡ length (space_of m (varnode_at list i 1).offset) = ee ∙ rw (e0, space-length m (varnode_at list i 1).offset) refl in
+        let l : extent ≡ length (space_of m (varnode_at list i 1).offset) = ee ∙ rw (e0, space_length m (varnode_at list i 1).offset) refl in
         rw (target_is, ef, f, by_offset, l, e2) refl
 
     pub stored_outside : not fits ≡ true → absent ≡ cond (exceeds_space m (destination_bytes op b)) absent (destination_bytes op b)

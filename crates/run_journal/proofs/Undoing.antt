@@ -19,11 +19,11 @@ use Rattle.machine.proofs.Conditions.{each_space}
 use Rattle.machine.specs.Counts.{counts_fit}
 use Rattle.machine.specs.MovedCounts.{MovedSpaces}
 use Rattle.machine.proofs.Kept.{written_lengths}
-use Rattle.machine.proofs.MovedCounts.{moved-spaces_none, moved-spaces_on, moved-spaces_lengths}
+use Rattle.machine.proofs.MovedCounts.{moved_spaces_none, moved_spaces_on, moved_spaces_lengths}
 use Rattle.run_memory.specs.Placed.{Placed}
 use Rattle.run_memory.specs.Marked.{Marked}
 use Rattle.run_memory.proofs.Spaces.{written_elsewhere, space_kept, written_same}
-use Rattle.run_plan.proofs.Places.{space-length}
+use Rattle.run_plan.proofs.Places.{space_length}
 use Rattle.run_journal.specs.declared.Entry.{Entry}
 use Rattle.run_journal.specs.Journal.{number_at, entry_of, entry_words, words_of, entry_in, restored, bytes_of_entry, labels_of_entry, undone, Undoable}
 
@@ -45,17 +45,17 @@ module _ (journal : List ℕ) (n : ℕ) (room : entry_words * n + entry_words �
   word_at k h = stored_at journal (entry_words * n) (words_of entry) k room h
 
   -- an entry written is read
-  pub entry-written : entry.target.size < 16 → entry_in after n ≡ entry
+  pub entry_written : entry.target.size < 16 → entry_in after n ≡ entry
   unfolding entry_in words_of
-  entry-written h =
+  entry_written h =
       let first : entry_words * n + 0 ≡ entry_words * n = omega arith in
       let w : get_or after (entry_words * n) 0 ≡ entry.target.space * 16 + entry.target.size = rw first at (word_at 0 (omega arith)) in
       rw (w, word_at 1 (omega arith), word_at 2 (omega arith), word_at 3 (omega arith), described entry.target.space entry.target.offset entry.target.size h) refl
 
   -- those before it stay
-  pub entry-before : (k : ℕ) → k < n → entry_in after k ≡ entry_in journal k
+  pub entry_before : (k : ℕ) → k < n → entry_in after k ≡ entry_in journal k
   unfolding entry_in
-  entry-before k h =
+  entry_before k h =
       rw (
         stored-before journal (entry_words * n) (words_of entry) (entry_words * k) (omega arith),
         stored-before journal (entry_words * n) (words_of entry) (entry_words * k + 1) (omega arith),
@@ -161,7 +161,7 @@ undone_same first second number (suc n) e m = rw (e n (omega arith)) (undone_sam
 pub placed_with : {a b : Memory} (v : Varnode) → lengths_of b ≡ lengths_of a → Placed a v → Placed b v
 placed_with {a} {b} v e p =
     let n : length (space_of a v.space) ≡ length (space_of b v.space) =
-    sym (space-length a v.space) ∙ rw (← e) (space-length b v.space) in
+    sym (space_length a v.space) ∙ rw (← e) (space_length b v.space) in
     record { size = p.size; known = p.known; nowhere = p.nowhere; within = λ h. rw (← n) (p.within h) }
 
 -- the loop: what is left to undo gives the whole, and the counts went with the labels
@@ -175,11 +175,11 @@ pub record Undoing (journal : List ℕ) (n : ℕ) (labels₀ m₀ counts₀ : Me
 
 pub undoing_none : (journal : List ℕ) (n : ℕ) (labels m counts : Memory) → Undoing journal n labels m counts n labels m counts
 undoing_none journal n labels m counts =
-    record { within = omega arith; lengths = refl; label_lengths = refl; bytes = refl; marks = refl; moved = moved-spaces_none labels counts }
+    record { within = omega arith; lengths = refl; label_lengths = refl; bytes = refl; marks = refl; moved = moved_spaces_none labels counts }
 
 module _ {journal : List ℕ} {n : ℕ} {labels₀ m₀ counts₀ : Memory} {k : ℕ} {labels m counts : Memory} (h : Undoing journal n labels₀ m₀ counts₀ k labels m counts) where
   pub count_lengths : lengths_of counts ≡ lengths_of counts₀
-  count_lengths = moved-spaces_lengths h.moved
+  count_lengths = moved_spaces_lengths h.moved
 
   -- nothing is left
   pub undoing_all : k ≤ 0
@@ -213,5 +213,5 @@ module _ {journal : List ℕ} {n : ℕ} {labels₀ m₀ counts₀ : Memory} {k :
             label_lengths = rw el (written_lengths labels _ _ ∙ h.label_lengths);
             bytes = rw (em, e) (rw (← s) at h.bytes);
             marks = rw (el, e) (rw (← s) at h.marks);
-            moved = moved-spaces_on h.label_lengths h.moved marked.moved;
+            moved = moved_spaces_on h.label_lengths h.moved marked.moved;
           }

@@ -23,14 +23,14 @@ use Rattle.machine.specs.Calls.{Outcome, unlabelled, log_after, outcome_of, plai
 use Rattle.machine.specs.Conditions.{operand1, leaks, exceeds_space, out_of_bounds, divides_by_zero, writes_log, low_part, exits, destination_bytes, label_moved, becomes_secret, label_written, exact_labels, labels_after}
 use Rattle.machine.specs.Conditions.{value_written, Words}
 use Rattle.machine.proofs.Conditions.{few_operations, absent-written}
-use Rattle.machine.proofs.Limits.{log-length}
+use Rattle.machine.proofs.Limits.{log_length}
 use Rattle.run_memory.specs.Placed.{Placed}
 use Rattle.run_plan.specs.declared.Plan.{Plan}
 use Rattle.run_plan.specs.Valid.{Valid}
 use Rattle.run_plan.specs.Plans.{control, low_due, exit_plan, next_plan, planned}
 use Rattle.run_plan.proofs.Bounds.{loaded_within, destination_placed, offset_small}
-use Rattle.run_plan.proofs.Opcodes.{each-access, each_branch, no_access}
-use Rattle.run_plan.proofs.Places.{valid_with, space-length, movable, branching}
+use Rattle.run_plan.proofs.Opcodes.{each_access, each_branch, no_access}
+use Rattle.run_plan.proofs.Places.{valid_with, space_length, movable, branching}
 use Rattle.run_plan.proofs.Steps.{words_of, applied, step_leak, step_applied, step_plain}
 use Rattle.run_execution.specs.Loops.{position}
 use Rattle.run_execution.proofs.Running.{ended_at, room_is, run_end}
@@ -64,9 +64,9 @@ other_offset : (big : Bool) (labels : Memory) (op : Operation) (b c : ℕ) → a
 unfolding labels_after exact_labels label_written label_moved destination_bytes becomes_secret
 other_offset big labels op b c e = let n = no_access op.opcode e in rw (n.n2, n.n3) refl
 
-other-target : (op : Operation) (b c : ℕ) → accesses op.opcode ≡ false → destination_bytes op c ≡ destination_bytes op b
+other_target : (op : Operation) (b c : ℕ) → accesses op.opcode ≡ false → destination_bytes op c ≡ destination_bytes op b
 unfolding destination_bytes
-other-target op b c e = let n = no_access op.opcode e in rw n.n3 refl
+other_target op b c e = let n = no_access op.opcode e in rw n.n3 refl
 
 -- ---- the plan of an operation that goes on
 
@@ -95,18 +95,18 @@ low_part_lem i b h = ap (λ (x : ℕ). x % 2 ^ 32) (add_comm (i * 2 ^ 32) b) ∙
 
 access_logs : (op : Operation) → accesses op.opcode ≡ true → writes_log op ≡ true
 unfolding writes_log member
-access_logs op e = each-access (λ n. member n (2 ∷ 3 ∷ 5 ∷ []) ≡ true) refl refl op.opcode e
+access_logs op e = each_access (λ n. member n (2 ∷ 3 ∷ 5 ∷ []) ≡ true) refl refl op.opcode e
 
 access_low : (op : Operation) (b : ℕ) → accesses op.opcode ≡ true → low_due op b ≡ b
 unfolding low_due low_part
-access_low op b e = rw (access_logs op e, each-access (λ n. eqb n 5 ≡ false) refl refl op.opcode e) refl
+access_low op b e = rw (access_logs op e, each_access (λ n. eqb n 5 ≡ false) refl refl op.opcode e) refl
 
 -- bounds are a matter of lengths
 bounds_by_lengths : (labels m : Memory) (op : Operation) (b : ℕ) → lengths_of labels ≡ lengths_of m → out_of_bounds labels op b ≡ out_of_bounds m op b
 unfolding out_of_bounds exceeds_space pointee
 bounds_by_lengths labels m op b e =
     let n : length (space_of labels op.input0.offset) ≡ length (space_of m op.input0.offset) =
-    sym (space-length labels op.input0.offset) ∙ rw e (space-length m op.input0.offset) in
+    sym (space_length labels op.input0.offset) ∙ rw e (space_length m op.input0.offset) in
     rw n refl
 
 -- ---- one operation at index i, with the first k words of the log written
@@ -215,9 +215,9 @@ module _ (program : Program) (i k : ℕ) (log : List ℕ) (labels m : Memory) (w
           unfolding applied continued run advanced position
           went_plain = plain_step_lem ∙ rw (es, no_room ef, ex) refl
 
-          went-labelled : run program 1 at labels m ≡ ended ending 0 after (labels_after (big_endian program.settings) labels op b) n
+          went_labelled : run program 1 at labels m ≡ ended ending 0 after (labels_after (big_endian program.settings) labels op b) n
           unfolding applied continued run advanced position
-          went-labelled = labelled_step ∙ rw (es, no_room ef, ex) refl
+          went_labelled = labelled_step ∙ rw (es, no_room ef, ex) refl
 
           -- the log word of LOAD and STORE
           due : accesses op.opcode ≡ true → P.due ≡ true
@@ -258,7 +258,7 @@ module _ (program : Program) (i k : ℕ) (log : List ℕ) (labels m : Memory) (w
               let l : length (take k log ++ (log_word i b ∷ [])) ≤ length log = rw (length-append (take k log) (log_word i b ∷ []), length-take-le k log place) (let h = room e in omega arith) in
               let w : log₁ ≡ log_after (take k log ++ (log_word i b ∷ [])) log = log_is 1 ending 0 after n plain went_plain ∙ rw (due e, low e) refl in
               let h = room e in
-              rw (w, log-length (take k log ++ (log_word i b ∷ [])) log l) h
+              rw (w, log_length (take k log ++ (log_word i b ∷ [])) log l) h
 
           marks : labels_after (big_endian program.settings) labels op (offset_logged op log₁ k) ≡ labels_after (big_endian program.settings) labels op b
           marks = by (accesses op.opcode) refl
@@ -273,7 +273,7 @@ module _ (program : Program) (i k : ℕ) (log : List ℕ) (labels m : Memory) (w
               let x : done.executed ≡ 1 = executed_is 1 ending 0 after n plain went_plain in
               let e = ending_is 1 ending 0 after n plain went_plain in
               goes (λ z. omega arith) (λ z. not_one (ltb P.next (operation_count program.list)) (sym e ∙ z)) inside (plan_inside program m op i a b es)
-              (λ t. (longer t, offset t)) (rw marks (relabel 1 ending 0 after (labels_after (big_endian program.settings) labels op b) n plain went_plain went-labelled))
+              (λ t. (longer t, offset t)) (rw marks (relabel 1 ending 0 after (labels_after (big_endian program.settings) labels op b) n plain went_plain went_labelled))
             where
               not_one : (t : Bool) → ◌≡◌ {A = ℕ} (cond t 2 0) 1 → ⊥
               not_one true z = let q : ◌≡◌ {A = ℕ} 2 1 = z in omega arith
@@ -307,11 +307,11 @@ module _ (program : Program) (i k : ℕ) (log : List ℕ) (labels m : Memory) (w
       where
         by : (t : Bool) → accesses op.opcode ≡ t → destination_bytes op (offset_logged op log₁ k) ≡ destination_bytes op b
         by true e = ap (destination_bytes op) (logged e).1
-        by false e = other-target op b (offset_logged op log₁ k) e
+        by false e = other_target op b (offset_logged op log₁ k) e
 
-    loads-access : eqb op.opcode 2 ≡ true → accesses op.opcode ≡ true
+    loads_access : eqb op.opcode 2 ≡ true → accesses op.opcode ≡ true
     unfolding accesses member
-    loads-access e = rw e refl
+    loads_access e = rw e refl
 
     -- a branch writes nothing
     writes_something : ((destination_bytes op (offset_logged op log₁ k)).space ≡ 0 → ⊥) → branches op.opcode ≡ false
@@ -337,8 +337,8 @@ module _ (program : Program) (i k : ℕ) (log : List ℕ) (labels m : Memory) (w
         index = inside;
         no_branch = writes_something s;
         loaded = λ e.
-            let h = movable labels valid.address_size program.list i (valid.operations i inside) (loads-access e) in
-            rw (logged (loads-access e)).1 (record {
+            let h = movable labels valid.address_size program.list i (valid.operations i inside) (loads_access e) in
+            rw (logged (loads_access e)).1 (record {
               size = h.loaded;
               known = h.space.1;
               nowhere = λ z. absurd (let s : 2 ≤ op.input0.offset = h.space.0 in let y : ⊥ = omega arith in y);

@@ -12,7 +12,7 @@ use Rattle.machine.specs.Run.{Position, Ended, ended}
 use Rattle.machine.specs.Calls.{log_after}
 use Rattle.machine.proofs.Budget.{later, later_ended, fresh, fresh_later}
 use Rattle.machine.proofs.Kept.{Kept}
-use Rattle.machine.proofs.Limits.{log-length}
+use Rattle.machine.proofs.Limits.{log_length}
 use Rattle.machine.proofs.Runs.{Runs}
 use Rattle.run_execution.specs.Loops.{position}
 use Rattle.run_execution.proofs.Running.{Log}
@@ -75,7 +75,7 @@ module _ {program : Program} {R : ℕ → Position → Memory → Memory → End
   pub part-position : r.position ≡ position r.position.index (length words) r.position.executed (log_after words log)
   unfolding position log_after
   part-position =
-      let n = log-length words log part-words in
+      let n = log_length words log part-words in
       let e = part_kept.log in
       let room : r.position.room ≡ length (log_after words log) - length words = rw n (omega arith) in
       rw (← room, take-append_seam words (drop (length words) log)) refl
@@ -83,7 +83,7 @@ module _ {program : Program} {R : ℕ → Position → Memory → Memory → End
   pub part_log : (log₀ : List ℕ) → Log log₀ log k → Log log₀ (log_after words log) (length words)
   unfolding log_after
   part_log log₀ g =
-      let n : length (words ++ drop (length words) log) ≡ length log = log-length words log part-words in
+      let n : length (words ++ drop (length words) log) ≡ length log = log_length words log part-words in
       let d : k + (length words - k) ≡ length words = let z = part_grows in omega arith in
       let split : (x : List ℕ) → drop (length words) x ≡ drop (length words - k) (drop k x) = λ x. sym (drop-drop (length words - k) k x ∙ ap (λ (j : ℕ). drop j x) d) in
       record {

@@ -19,7 +19,7 @@ use Rattle.machine.specs.Run.{Position, Ended}
 use Rattle.machine.specs.Calls.{Outcome, log_after, outcome_of, labelled_outcome}
 use Rattle.machine.specs.MovedCounts.{MovedSpaces}
 use Rattle.machine.proofs.Budget.{later, later_ended}
-use Rattle.machine.proofs.MovedCounts.{moved-spaces_on, moved-spaces_lengths}
+use Rattle.machine.proofs.MovedCounts.{moved_spaces_on, moved_spaces_lengths}
 use Rattle.machine.proofs.Resume.{no_labels}
 use Rattle.machine.proofs.Runs.{Runs}
 use Rattle.run_plan.specs.Valid.{Valid}
@@ -94,10 +94,10 @@ module _ {labelled single : Bool} {program : Program} {R : ℕ → Position → 
   -- counts that were long enough still are, and move on with the labels
   module _ {counts₀ counts : Memory} (moved : MovedSpaces low_bit labels₀ labels counts₀ counts) where
     pub may_count : Countable labelled labels₀ counts₀ → Countable labelled labels counts
-    may_count c t = rw (g.marks, moved-spaces_lengths moved) (c t)
+    may_count c t = rw (g.marks, moved_spaces_lengths moved) (c t)
 
     pub counts_on : {labels' counts' : Memory} → MovedSpaces low_bit labels labels' counts counts' → MovedSpaces low_bit labels₀ labels' counts₀ counts'
-    counts_on more = moved-spaces_on g.marks moved more
+    counts_on more = moved_spaces_on g.marks moved more
 
   module _ (most : ℕ) (given : most ≡ turn_of single budget) (done : Report) (m' labels' : Memory) (log' : List ℕ)
       (e : labelled_outcome done m' labels' log' ≡ outcome_of log (R most (position i k 0 log) labels m)) where

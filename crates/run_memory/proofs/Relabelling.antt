@@ -11,7 +11,7 @@ use Rattle.word.specs.Sum.{sum, tabulate}
 use Rattle.word.specs.Word.{Bytes, part, value_of, bytes_of}
 use Rattle.word.proofs.Laws.{part_length, part_at, part_bytes, value_lt, bytes-length, written_read}
 use Rattle.word.proofs.Powers.{size_pos}
-use Rattle.word.proofs.Shifts.{bytes-mod}
+use Rattle.word.proofs.Shifts.{bytes_mod}
 use Rattle.secret_counts.specs.Recount.{count_words}
 use Rattle.secret_counts.specs.Moved.{low_bit, Moved}
 use Rattle.secret_counts.proofs.Moves.{moved_none, moved_in}
@@ -20,7 +20,7 @@ use Rattle.machine.specs.Memory.{Memory, OfBytes, lengths_of, space_of, with_spa
 use Rattle.machine.specs.Counts.{counts_fit}
 use Rattle.machine.specs.MovedCounts.{MovedSpaces}
 use Rattle.machine.proofs.Conditions.{each_space}
-use Rattle.machine.proofs.MovedCounts.{moved-spaces_none, counts_fit_lem}
+use Rattle.machine.proofs.MovedCounts.{moved_spaces_none, counts_fit_lem}
 use Rattle.run_memory.specs.Placed.{Placed}
 use Rattle.run_memory.specs.Marked.{Marked}
 use Rattle.run_memory.proofs.Spaces.{placed_in, written_in, written_elsewhere, written_same}
@@ -59,12 +59,12 @@ module _ (labels counts : Memory) (v : Varnode) (word : ℕ) where
       let read : bytes_of false v.size (value_of false there) ≡ there =
       rw (part_length (space_of labels v.space) v.offset v.size) at
       (written_read false there (part_bytes (space_of labels v.space) v.offset v.size (bytes v.space))) in
-      let same : bytes_of false v.size word ≡ there = bytes-mod false v.size word ∙ ap (bytes_of false v.size) (sym e) ∙ read in
-      record { stored = sym (ap (written labels v) same ∙ written_same labels v p); moved = moved-spaces_none labels counts }
+      let same : bytes_of false v.size word ≡ there = bytes_mod false v.size word ∙ ap (bytes_of false v.size) (sym e) ∙ read in
+      record { stored = sym (ap (written labels v) same ∙ written_same labels v p); moved = moved_spaces_none labels counts }
 
   -- in none of the three spaces
   pub marked_nowhere : (v.space ≡ 2 → ⊥) → (v.space ≡ 3 → ⊥) → (v.space ≡ 4 → ⊥) → Marked labels counts v word labels counts
-  marked_nowhere not2 not3 not4 = record { stored = sym (written_elsewhere labels v not2 not3 not4 _); moved = moved-spaces_none labels counts }
+  marked_nowhere not2 not3 not4 = record { stored = sym (written_elsewhere labels v not2 not3 not4 _); moved = moved_spaces_none labels counts }
 
   -- the counts of a space are long enough
   pub room_in : counts_fit (lengths_of labels) (lengths_of counts) ≡ true → (n : ℕ) → 2 ≤ n → n ≤ 4 → count_words (length (space_of labels n)) ≤ length (space_of counts n)
@@ -90,7 +90,7 @@ module _ (labels counts : Memory) (v : Varnode) (word : ℕ) where
       → Moved low_bit (length (space_of labels n)) 0 (space_of labels n) after (space_of counts n) counts'
       → Marked labels counts v word (with_space labels n after) (with_space counts n counts')
   marked_in n e low high after counts' s m = record {
-    stored = written_in labels v n e after _ (s ∙ ap (sets (space_of labels n) v.offset) (sym (bytes-mod false v.size word)));
+    stored = written_in labels v n e after _ (s ∙ ap (sets (space_of labels n) v.offset) (sym (bytes_mod false v.size word)));
     moved = moved_in_space n low high after counts' m;
   }
 

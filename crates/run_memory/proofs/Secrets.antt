@@ -28,11 +28,11 @@ unfolding tabulate any_secret
 tabulate_public zero f h = refl
 tabulate_public (suc n) f h = rw (h 0 (omega arith)) (tabulate_public n (λ i. f (suc i)) (λ i l. h (suc i) (omega arith)))
 
-public-tabulate : (n : ℕ) (f : ℕ → ℕ) → any_secret (tabulate n f) ≡ false → (i : ℕ) → i < n → f i ≡ 0
+public_tabulate : (n : ℕ) (f : ℕ → ℕ) → any_secret (tabulate n f) ≡ false → (i : ℕ) → i < n → f i ≡ 0
 unfolding tabulate any_secret
-public-tabulate zero f h i l = absurd (let z : ⊥ = omega arith in z)
-public-tabulate (suc n) f h zero l = eqb-true (f 0) 0 (not-false (eqb (f 0) 0) (neither (not (eqb (f 0) 0)) _ h).0)
-public-tabulate (suc n) f h (suc i) l = public-tabulate n (λ k. f (suc k)) (neither (not (eqb (f 0) 0)) _ h).1 i (omega arith)
+public_tabulate zero f h i l = absurd (let z : ⊥ = omega arith in z)
+public_tabulate (suc n) f h zero l = eqb-true (f 0) 0 (not-false (eqb (f 0) 0) (neither (not (eqb (f 0) 0)) _ h).0)
+public_tabulate (suc n) f h (suc i) l = public_tabulate n (λ k. f (suc k)) (neither (not (eqb (f 0) 0)) _ h).1 i (omega arith)
 
 -- ---- a number whose digits are all 0
 
@@ -41,9 +41,9 @@ unfolding sum
 sum-zero zero f h = refl
 sum-zero (suc n) f h = rw (sum-zero n f (λ i l. h i (omega arith)), h n (omega arith)) refl
 
-factor-zero : (a k : ℕ) → a * 256 ^ k ≡ 0 → a ≡ 0
-factor-zero zero k e = refl
-factor-zero (suc a) k e =
+factor_zero : (a k : ℕ) → a * 256 ^ k ≡ 0 → a ≡ 0
+factor_zero zero k e = refl
+factor_zero (suc a) k e =
     absurd (let l : 0 * 256 ^ k < suc a * 256 ^ k = mul-lt-mul_of_pos_right (omega arith) (size_pos k) in let z : ⊥ = omega (arith, zero-mul (256 ^ k)) in z)
 
 zeros-sum : (n : ℕ) (f : ℕ → ℕ) → sum n (λ i. f i * 256 ^ i) ≡ 0 → (i : ℕ) → i < n → f i ≡ 0
@@ -52,14 +52,14 @@ zeros-sum zero f e i l = absurd (let z : ⊥ = omega arith in z)
 zeros-sum (suc n) f e i l = by (eqb i n) refl (zeros-sum n f (omega arith) i)
   where
     by : (t : Bool) → eqb i n ≡ t → (i < n → f i ≡ 0) → f i ≡ 0
-    by true q h = rw (eqb-true i n q) (factor-zero (f n) n (omega arith))
+    by true q h = rw (eqb-true i n q) (factor_zero (f n) n (omega arith))
     by false q h = let d : i ≡ n → ⊥ = eqb-false i n q in h (omega arith)
 
 -- ---- what the code looks at
 
-pub number-secret : (labels : Memory) (v : Varnode) → not (eqb (value_of false (bytes_at labels v)) 0) ≡ any_secret (bytes_at labels v)
+pub number_secret : (labels : Memory) (v : Varnode) → not (eqb (value_of false (bytes_at labels v)) 0) ≡ any_secret (bytes_at labels v)
 unfolding bytes_at part gathered significance
-number-secret labels v = rw (← (gathered_all false (space_of labels v.space) v.offset v.size)) (by (eqb number 0) refl (any_secret (tabulate v.size label)) refl)
+number_secret labels v = rw (← (gathered_all false (space_of labels v.space) v.offset v.size)) (by (eqb number 0) refl (any_secret (tabulate v.size label)) refl)
   where
     label : ℕ → ℕ
     label i = get_or (space_of labels v.space) (v.offset + i) 0
@@ -71,7 +71,7 @@ number-secret labels v = rw (← (gathered_all false (space_of labels v.space) v
     by true e true q = sym (tabulate_public v.size label (zeros-sum v.size label (eqb-true number 0 e))) ∙ q
     by true e false q = refl
     by false e true q = refl
-    by false e false q = sym (eq-eqb number 0 (sum-zero v.size (λ i. label i * 256 ^ i) (λ i l. rw (public-tabulate v.size label q i l) (zero-mul (256 ^ i))))) ∙ e
+    by false e false q = sym (eq-eqb number 0 (sum-zero v.size (λ i. label i * 256 ^ i) (λ i l. rw (public_tabulate v.size label q i l) (zero-mul (256 ^ i))))) ∙ e
 
 -- a constant has no bytes in a space, and an absent varnode has none at all
 no_space : (labels : Memory) (space : ℕ) → space < 2 → space_of labels space ≡ []

@@ -33,9 +33,9 @@ unfolding branches member
 taken-branches n t h =
     when n 4 (λ e. rw e refl) (λ n4. when n 5 (λ e. rw e refl) (λ n5. when n 7 (λ e. rw e refl) (λ n7. absurd (true≢false (sym (rw (n4, n5, n7) at h))))))
 
-stores-access : (n : ℕ) → eqb n 3 ≡ true → accesses n ≡ true
+stores_access : (n : ℕ) → eqb n 3 ≡ true → accesses n ≡ true
 unfolding accesses member
-stores-access n e = let k : n ≡ 3 = eqb-true n 3 e in rw k refl
+stores_access n e = let k : n ≡ 3 = eqb-true n 3 e in rw k refl
 
 -- LOAD and STORE that are not out of bounds
 module _ (m : Memory) (op : Operation) (b : ℕ) (o : out_of_bounds m op b ≡ false) where
@@ -111,7 +111,7 @@ module _ (program : Program) (m : Memory) (i : ℕ) (v : Valid (lengths_of m) pr
   unfolding destination_bytes pointee operation_at
   destination_placed b o =
       by_cond (Placed m) (eqb op.opcode 3) _ _
-      (λ k. let a = movable m v.address_size program.list i w (stores-access op.opcode k) in
+      (λ k. let a = movable m v.address_size program.list i w (stores_access op.opcode k) in
       record {
         size = a.stored.size;
         known = a.space.1;
@@ -141,15 +141,15 @@ module _ (program : Program) (m : Memory) (i : ℕ) (v : Valid (lengths_of m) pr
       when op.opcode 2 (λ e. let l = loaded_within m op b o (eq-eqb op.opcode 2 e) in omega arith) (λ n2.
       when op.opcode 3 (λ e. let l = stored_within m op b o (eq-eqb op.opcode 3 e) in omega arith) (λ n3. absurd (true≢false (sym (rw (n2, n3) at k)))))
 
-  logs-access : (n : ℕ) → eqb n 5 ≡ false → member n (2 ∷ 3 ∷ 5 ∷ []) ≡ true → accesses n ≡ true
+  logs_access : (n : ℕ) → eqb n 5 ≡ false → member n (2 ∷ 3 ∷ 5 ∷ []) ≡ true → accesses n ≡ true
   unfolding accesses member
-  logs-access n n5 k = when n 2 (λ e. rw e refl) (λ n2. when n 3 (λ e. rw e refl) (λ n3. absurd (true≢false (sym (rw (n2, n3, n5) at k)))))
+  logs_access n n5 k = when n 2 (λ e. rw e refl) (λ n2. when n 3 (λ e. rw e refl) (λ n3. absurd (true≢false (sym (rw (n2, n3, n5) at k)))))
 
   low_due_lem : (b : ℕ) → out_of_bounds m op b ≡ false → Small (low_due op b)
   unfolding low_due low_part writes_log
   low_due_lem b o =
       by_cond Small (writes_log op) _ _
-      (λ k. by_cond Small (eqb op.opcode 5) _ _ (λ c. omega (arith, flag_lt (taken op b))) (λ n5. offset_small b o (logs-access op.opcode n5 k)))
+      (λ k. by_cond Small (eqb op.opcode 5) _ _ (λ c. omega (arith, flag_lt (taken op b))) (λ n5. offset_small b o (logs_access op.opcode n5 k)))
       (λ k. omega arith)
 
   pub low_small : (a b : ℕ) → Low (planned program m op i a b)

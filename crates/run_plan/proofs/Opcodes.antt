@@ -20,8 +20,8 @@ of_opcode g e ex h = ap g (sym e) ∙ sym ex ∙ h
 pub opcode_is : {n k : ℕ} (m : ℕ) → n ≡ k → n ≡ m → eqb k m ≡ true
 opcode_is {n} {k} m e h = eq-eqb k m (sym e ∙ h)
 
-pub opcode_is-not : {n k : ℕ} (m : ℕ) → n ≡ k → (n ≡ m → ⊥) → eqb k m ≡ false
-opcode_is-not {n} {k} m e h = ne_eqb k m (λ z. h (e ∙ z))
+pub opcode_is_not : {n k : ℕ} (m : ℕ) → n ≡ k → (n ≡ m → ⊥) → eqb k m ≡ false
+opcode_is_not {n} {k} m e h = ne_eqb k m (λ z. h (e ∙ z))
 
 -- the divisions, told as a range and one by one
 pub divides-member : (n : ℕ) → divides n ≡ member n (35 ∷ 36 ∷ 37 ∷ 38 ∷ [])
@@ -32,9 +32,9 @@ divides-member n =
 
 -- ---- the opcodes of a class, one by one
 
-pub each-access : (P : ℕ → Type 0) → P 2 → P 3 → (n : ℕ) → accesses n ≡ true → P n
+pub each_access : (P : ℕ → Type 0) → P 2 → P 3 → (n : ℕ) → accesses n ≡ true → P n
 unfolding accesses member
-each-access P p2 p3 n a =
+each_access P p2 p3 n a =
     when n 2 (λ e. subst P (sym e) p2) (λ n2. when n 3 (λ e. subst P (sym e) p3) (λ n3. absurd (true≢false (sym (rw (n2, n3) at a)))))
 
 pub each_branch : (P : ℕ → Type 0) → P 4 → P 5 → P 7 → (n : ℕ) → branches n ≡ true → P n
@@ -51,12 +51,12 @@ each_jump P p6 p8 p9 n j =
 
 pub access_no_branch : (n : ℕ) → accesses n ≡ true → branches n ≡ false
 unfolding branches member
-access_no_branch n a = each-access (λ k. branches k ≡ false) refl refl n a
+access_no_branch n a = each_access (λ k. branches k ≡ false) refl refl n a
 
 -- from the first integer operation on there is none of them
-pub late_no-access : (n : ℕ) → first_integer ≤ n → accesses n ≡ false
+pub late_no_access : (n : ℕ) → first_integer ≤ n → accesses n ≡ false
 unfolding accesses member
-late_no-access n l = rw (ne_eqb n 2 (λ e. omega arith), ne_eqb n 3 (λ e. omega arith)) refl
+late_no_access n l = rw (ne_eqb n 2 (λ e. omega arith), ne_eqb n 3 (λ e. omega arith)) refl
 
 pub late_no_branch : (n : ℕ) → first_integer ≤ n → branches n ≡ false
 unfolding branches member
@@ -70,8 +70,8 @@ module _ (P : Operation → Type 0) (op : Operation) where
   abbrev With : Varnode → ℕ → Type 0
   With output n = P (operation n output op.input0 op.input1 op.input2)
 
-  pub by-access : accesses op.opcode ≡ true → With op.output 2 → With op.output 3 → P op
-  by-access a p2 p3 = each-access (With op.output) p2 p3 op.opcode a
+  pub by_access : accesses op.opcode ≡ true → With op.output 2 → With op.output 3 → P op
+  by_access a p2 p3 = each_access (With op.output) p2 p3 op.opcode a
 
   pub by_jump : jumps op.opcode ≡ true → With op.output 6 → With op.output 8 → With op.output 9 → P op
   by_jump j p6 p8 p9 = each_jump (With op.output) p6 p8 p9 op.opcode j

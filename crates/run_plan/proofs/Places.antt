@@ -21,15 +21,15 @@ use Rattle.machine.proofs.Ranges.{in_range, space_small}
 use Rattle.run_memory.specs.Placed.{Placed}
 use Rattle.run_plan.specs.Valid.{Valid}
 use Rattle.run_plan.specs.Plans.{Movable, Addressable, Branching, Computable}
-use Rattle.run_plan.proofs.Opcodes.{each-access, each_branch, access_no_branch, late}
+use Rattle.run_plan.proofs.Opcodes.{each_access, each_branch, access_no_branch, late}
 
 -- a list is valid by the lengths of the spaces alone
 pub valid_with : {a b : Lengths} {list : List ℕ} → a ≡ b → Valid b list → Valid a list
 valid_with {list = list} e v = subst (λ (l : Lengths). Valid l list) (sym e) v
 
-pub space-length : (m : Memory) (space : ℕ) → length_of (lengths_of m) space ≡ length (space_of m space)
+pub space_length : (m : Memory) (space : ℕ) → length_of (lengths_of m) space ≡ length (space_of m space)
 unfolding length_of lengths_of space_of
-space-length m space = by (eqb space 2) (eqb space 3) (eqb space 4)
+space_length m space = by (eqb space 2) (eqb space 3) (eqb space 4)
   where
     by : (p q r : Bool) → cond p (length m.unique) (cond q (length m.register) (cond r (length m.ram) 0)) ≡ length (cond p m.unique (cond q m.register (cond r m.ram [])))
     by true q r = refl
@@ -49,7 +49,7 @@ module _ (m : Memory) (address_size : ℕ) (list : List ℕ) (i : ℕ) (w : Well
             size = p.3;
             known = p.1;
             nowhere = λ z. absurd (let s : 1 ≤ (varnode_at list i place).space = p.0 in let y : ⊥ = omega arith in y);
-            within = λ l. rw (sym (space-length m (varnode_at list i place).space)) (w.within place h exempt l);
+            within = λ l. rw (sym (space_length m (varnode_at list i place).space)) (w.within place h exempt l);
           }
       by false e =
           let a : varnode_at list i place ≡ absent = w.omitted place h e in
@@ -134,7 +134,7 @@ moves_some : (n : ℕ) → accesses n ≡ true → (output input2 : Varnode) →
     → 1 ≤ (cond (eqb n 2) output input2).size
 unfolding has_place outputs inputs row_of opcodes
 moves_some n a output input2 =
-    each-access (λ k. (has_place k 0 ≡ true → 1 ≤ output.size) → (has_place k 3 ≡ true → 1 ≤ input2.size) → 1 ≤ (cond (eqb k 2) output input2).size)
+    each_access (λ k. (has_place k 0 ≡ true → 1 ≤ output.size) → (has_place k 3 ≡ true → 1 ≤ input2.size) → 1 ≤ (cond (eqb k 2) output input2).size)
     (λ f g. f refl) (λ f g. g refl) n a
 
 -- LOAD and STORE at a pointer

@@ -13,12 +13,12 @@ use Rattle.operation.specs.Layout.{absent}
 use Rattle.machine.specs.Effect.{Operation, byte_offset, pointee}
 use Rattle.machine.specs.Conditions.{exceeds_space, out_of_bounds, divides_by_zero, writes_log, taken, low_part, branch_taken, exits, destination, next_index, destination_bytes}
 use Rattle.machine.specs.Conditions.{operand1, value_computed, value_moved, value_written}
-use Rattle.machine.proofs.Wordsizes.{operand-access, operand_other}
+use Rattle.machine.proofs.Wordsizes.{operand_access, operand_other}
 use Rattle.run_memory.specs.Placed.{Placed}
 use Rattle.run_plan.specs.declared.Plan.{Plan}
 use Rattle.run_plan.specs.Plans.{control, stop_plan, low_due, exit_plan, next_plan, planned, move_plan, branch_plan, data_plan, Movable, Branching, Computable}
-use Rattle.run_plan.proofs.Places.{space-length}
-use Rattle.run_plan.proofs.Opcodes.{divides-member, each_branch, by-access, by_jump, by_branch, no_access, no_branch, no_jump, late_no_jump, late}
+use Rattle.run_plan.proofs.Places.{space_length}
+use Rattle.run_plan.proofs.Opcodes.{divides-member, each_branch, by_access, by_jump, by_branch, no_access, no_branch, no_jump, late_no_jump, late}
 
 -- ---- BRANCH, CALL and CBRANCH
 
@@ -74,11 +74,11 @@ module _ (program : Program) (m : Memory) (i b : ℕ) where
   module _ (op : Operation) (h : Movable m op) where
     pub outside : Outside op
     unfolding move_plan out_of_bounds exceeds_space pointee
-    outside = by-access Outside op h.opcode (λ f. rw f refl) (λ f. rw f refl)
+    outside = by_access Outside op h.opcode (λ f. rw f refl) (λ f. rw f refl)
 
     pub moves : Moves op
     unfolding move_plan out_of_bounds exceeds_space pointee next_plan next_index branch_taken taken writes_log low_due low_part destination_bytes value_moved member
-    moves = by-access Moves op h.opcode (λ f. rw f refl) (λ f. rw f refl)
+    moves = by_access Moves op h.opcode (λ f. rw f refl) (λ f. rw f refl)
 
 -- ---- all others
 
@@ -116,7 +116,7 @@ module _ (program : Program) (m : Memory) (i a b : ℕ) where
   module _ (op : Operation) where
     plans_move : Movable m op → Moved op
     unfolding move_plan planned divides_by_zero exits branch_taken taken value_written member
-    plans_move h = by-access Moved op h.opcode refl refl
+    plans_move h = by_access Moved op h.opcode refl refl
 
     plans_branch : Branching op → Branched op
     unfolding branch_plan planned out_of_bounds divides_by_zero exit_plan destination value_written value_computed result_of integer_results lookup member
@@ -133,7 +133,7 @@ module _ (program : Program) (m : Memory) (i a b : ℕ) (op : Operation) (e : b 
 
   pub planned-access : Movable m op → Plans (move_plan program m op i (byte_offset program.settings op b))
   planned-access h =
-      plans_move program m i a _ op h ∙ ap (planned program m op i a) (rw e (sym (operand-access program m op h.opcode)))
+      plans_move program m i a _ op h ∙ ap (planned program m op i a) (rw e (sym (operand_access program m op h.opcode)))
 
   planned_value : accesses op.opcode ≡ false → Plans (planned program m op i a b)
   planned_value f = ap (planned program m op i a) (e ∙ sym (operand_other program m op f))
@@ -176,8 +176,8 @@ module _ (op : Operation) (a b n : ℕ) (en : n ≡ op.opcode) (h : Computable o
     jumping : {t : Bool} → j ≡ t → jumps op.opcode ≡ t
     jumping k = rw (← en) (sym ej ∙ k)
 
-    pub code-jumps : (i : ℕ) (r : Plan) → j ≡ true → r ≡ control 1 i false 0 a → r ≡ data_plan op i a b
-    code-jumps i r k e = e ∙ jumped i a b op h (jumping k)
+    pub code_jumps : (i : ℕ) (r : Plan) → j ≡ true → r ≡ control 1 i false 0 a → r ≡ data_plan op i a b
+    code_jumps i r k e = e ∙ jumped i a b op h (jumping k)
 
     copy : n < 10 → j ≡ false → op.opcode ≡ 1
     copy l f = by (eqb op.opcode 1) refl
@@ -199,8 +199,8 @@ module _ (op : Operation) (a b n : ℕ) (en : n ≡ op.opcode) (h : Computable o
     dividing : {t : Bool} → z ≡ t → divides op.opcode && eqb b 0 ≡ t
     dividing k = rw (← en, ← ed) (sym ez ∙ k)
 
-    pub code_by-zero : (i : ℕ) (r : Plan) → z ≡ true → r ≡ control 33 i false 0 0 → r ≡ data_plan op i a b
-    code_by-zero i r k e = e ∙ by_zero i a b op h (dividing k)
+    pub code_by_zero : (i : ℕ) (r : Plan) → z ≡ true → r ≡ control 33 i false 0 0 → r ≡ data_plan op i a b
+    code_by_zero i r k e = e ∙ by_zero i a b op h (dividing k)
 
     module _ (g : z ≡ false) (out v0 v1 : Varnode) (eo : out ≡ op.output) (e0 : v0 ≡ op.input0) (e1 : v1 ≡ op.input1) where
       no_jumping : jumps op.opcode ≡ false
@@ -230,7 +230,7 @@ module _ (m : Memory) (op : Operation) (b n : ℕ) (output input0 input2 sized :
   sized_as = es ∙ rw (en, eo, e2) refl
 
   fits_as : {k : Bool} → t ≡ k → fits m b op ≡ k
-  fits_as k = sym (et ∙ rw (ee, e0, space-length m op.input0.offset, sized_as) refl) ∙ k
+  fits_as k = sym (et ∙ rw (ee, e0, space_length m op.input0.offset, sized_as) refl) ∙ k
 
   there : record { space = input0.offset; offset = b; size = sized.size } ≡ pointee op b (moved op).size
   unfolding pointee
@@ -258,10 +258,10 @@ module _ (m : Memory) (op : Operation) (b n : ℕ) (output input0 input2 sized :
             }
         by false e = h.stored
 
-    pub code-moves : (program : Program) (i : ℕ) (r : Plan) (x : ℕ) → x ≡ value_at program.settings m from
+    pub code_moves : (program : Program) (i : ℕ) (r : Plan) (x : ℕ) → x ≡ value_at program.settings m from
         → (to : Varnode) → to ≡ cond (eqb n 2) output (record { space = input0.offset; offset = b; size = sized.size })
         → r ≡ record { stop = 0; next = i + 1; due = true; low = b; target = to; value = x } → r ≡ move_plan program m op i b
-    code-moves program i r x ex to eto e =
+    code_moves program i r x ex to eto e =
         let sink : to ≡ cond (eqb op.opcode 2) op.output (pointee op b (moved op).size) = eto ∙ rw (there, en, eo) refl in
         let value : x ≡ value_at program.settings m (cond (eqb op.opcode 2) (pointee op b (moved op).size) op.input2) = ex ∙ ap (value_at program.settings m) source in
         e ∙ rw (sink, value, add-one) (moves program m i b op h (fits_as (not-false t k)))

@@ -9,7 +9,7 @@ use Rattle.validation.specs.Verdict.{most_bytes}
 use Rattle.machine.specs.Memory.{Memory, lengths_of}
 use Rattle.machine.specs.Effect.{Operation, byte_offset}
 use Rattle.run_plan.specs.Plans.{Addressable}
-use Rattle.run_plan.proofs.Places.{space-length}
+use Rattle.run_plan.proofs.Places.{space_length}
 
 -- ---- with a wordsize and a size of at least 1
 
@@ -58,7 +58,7 @@ module _ (settings : Settings) (m : Memory) (op : Operation) (h : Addressable se
   -- what the code asks for its product
   pub may_multiply : (input0 : Varnode) → input0 ≡ op.input0 → (extent : ℕ) → extent ≡ length_of (lengths_of m) input0.offset
       → (extent ≤ most_bytes) × (wordsize_of settings.wordsizes input0.offset ≤ 8)
-  may_multiply input0 e0 extent ee = (rw (ee, e0, space-length m op.input0.offset) h.extent, rw e0 h.wordsize.1)
+  may_multiply input0 e0 extent ee = (rw (ee, e0, space_length m op.input0.offset) h.extent, rw e0 h.wordsize.1)
 
   module _ (n : ℕ) (output input0 input2 sized : Varnode) (eo : n ≡ op.opcode)
       (e : output ≡ op.output) (e0 : input0 ≡ op.input0) (e2 : input2 ≡ op.input2) (es : sized ≡ cond (eqb n 2) output input2)

@@ -12,8 +12,8 @@ use Rattle.machine.specs.Run.{Position, Stepped, log_word, advanced, ended, step
 use Rattle.machine.specs.Calls.{unlabelled}
 use Rattle.machine.specs.Conditions.{has_secret, leaks, out_of_bounds, divides_by_zero, writes_log, log_word_of, exits, destination, next_index, destination_bytes, value_written}
 use Rattle.machine.specs.Conditions.{operand1, position_after, exact_step_with, labels_after, exact_step, Words}
-use Rattle.machine.proofs.Plain.{nothing-secret, nothing_written}
-use Rattle.machine.proofs.Conditions.{formed, few_operations, meets, one-secret}
+use Rattle.machine.proofs.Plain.{nothing_secret, nothing_written}
+use Rattle.machine.proofs.Conditions.{formed, few_operations, meets, one_secret}
 use Rattle.run_plan.specs.declared.Plan.{Plan}
 use Rattle.run_plan.specs.Valid.{Valid}
 use Rattle.run_plan.specs.Plans.{control, stop_plan, low_due, exit_plan, next_plan, planned}
@@ -76,7 +76,7 @@ no_leak op =
     ) refl
   where
     public : (v : Varnode) → has_secret unlabelled v ≡ false
-    public v = sym (one-secret unlabelled v) ∙ nothing-secret (v ∷ [])
+    public v = sym (one_secret unlabelled v) ∙ nothing_secret (v ∷ [])
 
 -- The step of a well-formed list.
 module _ (program : Program) (at : Position) (labels m : Memory) (words : Words program.list) (bytes : OfBytes m)
@@ -90,9 +90,9 @@ module _ (program : Program) (at : Position) (labels m : Memory) (words : Words 
   abbrev pub b : ℕ
   b = operand1 program m op
 
-  step-exact_step : stepped program at labels m ≡ exact_step program op at labels m
+  step_exact_step : stepped program at labels m ≡ exact_step program op at labels m
   unfolding stepped
-  step-exact_step =
+  step_exact_step =
       let small = few_operations (lengths_of m) program.list v.in_range in
       let w = v.operations at.index within in
       rw (lt-ltb at.index (operation_count program.list) within)
@@ -101,13 +101,13 @@ module _ (program : Program) (at : Position) (labels m : Memory) (words : Words 
   -- LEAK
   pub step_leak : leaks labels op ≡ true → stepped program at labels m ≡ Stepped.halted (ended 31 0 at labels m)
   unfolding exact_step
-  step_leak e = step-exact_step ∙ rw e refl
+  step_leak e = step_exact_step ∙ rw e refl
 
   -- else the plan carried out
   pub step_applied : leaks labels op ≡ false
       → stepped program at labels m ≡ applied program (planned program m op at.index a b) at labels (labels_after (big_endian program.settings) labels op b) m
   unfolding exact_step
-  step_applied e = step-exact_step ∙ rw e (exact_step_applied program op a b at labels (labels_after (big_endian program.settings) labels op b) m)
+  step_applied e = step_exact_step ∙ rw e (exact_step_applied program op a b at labels (labels_after (big_endian program.settings) labels op b) m)
 
 -- without labels nothing leaks, and nothing is marked
 module _ (program : Program) (at : Position) (m : Memory) (words : Words program.list) (bytes : OfBytes m)

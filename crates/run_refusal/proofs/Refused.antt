@@ -35,9 +35,9 @@ picked_report true a b = refl
 picked_report false a b = refl
 
 -- filling counts: 11, then 12
-pub refused-counting : (unfit invalid : Bool) → refusal_report (cond unfit 11 (cond invalid 12 0)) 0
+pub refused_counting : (unfit invalid : Bool) → refusal_report (cond unfit 11 (cond invalid 12 0)) 0
     ≡ cond unfit (refusal_report 11 0) (cond invalid (refusal_report 12 0) (refusal_report 0 0))
-refused-counting unfit invalid = rw (picked_report unfit 11 (cond invalid 12 0), picked_report invalid 12 0) refl
+refused_counting unfit invalid = rw (picked_report unfit 11 (cond invalid 12 0), picked_report invalid 12 0) refl
 
 -- the test of the journal, after that of the labels or before it
 pub journal_first : (labels journal lent : Bool) → labels && (journal && lent) ≡ journal && (labels && lent)

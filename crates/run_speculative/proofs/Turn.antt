@@ -19,13 +19,13 @@ use Rattle.machine.specs.MovedCounts.{MovedSpaces}
 use Rattle.machine.specs.Conditions.{Words}
 use Rattle.machine.proofs.Cases.{either}
 use Rattle.machine.proofs.Conditions.{absent-written}
-use Rattle.machine.proofs.Limits.{log-length}
+use Rattle.machine.proofs.Limits.{log_length}
 use Rattle.machine.proofs.Runs.{run_laws}
 use Rattle.speculation.specs.Window.{Way, way_of, other_way, ahead, marked, with_words, uncounted}
 use Rattle.speculation.specs.Speculation.{speculate}
 use Rattle.speculation.proofs.Runs.{marked-length}
 use Rattle.speculation.proofs.NoWindow.{speculate_same}
-use Rattle.speculation.proofs.Unrolling.{after_ended, another_operation, stopped_operation, no_other_way, window-opened, WayBy, one_way}
+use Rattle.speculation.proofs.Unrolling.{after_ended, another_operation, stopped_operation, no_other_way, window_opened, WayBy, one_way}
 use Rattle.run_plan.specs.Valid.{Valid}
 use Rattle.run_plan.proofs.Bounds.{relative-target}
 use Rattle.run_plan.proofs.Places.{in_words, index_small}
@@ -287,7 +287,7 @@ module _ {program : Program} {i k most window : ℕ} {log : List ℕ} {labels m 
     kept = (part_kept (run_laws program) 1 i k log labels m g.place).log
 
     log_kept : length log₁ ≡ length log
-    log_kept = ap length is_log ∙ log-length one.position.log log (let n = kept in omega (arith, n))
+    log_kept = ap length is_log ∙ log_length one.position.log log (let n = kept in omega (arith, n))
 
     pub may_open : Valid (lengths_of m₁) program.list × (other ≤ operation_count program.list) × (done.logged ≤ length log₁) × (lengths_of labels₁ ≡ lengths_of m₁)
     may_open = (rw same_memory g.valid, other_is.1, rw (log_kept, is_logged) (let n = kept in omega (arith, n)), rw (same_memory, same_labels) g.fit)
@@ -301,7 +301,7 @@ module _ {program : Program} {i k most window : ℕ} {log : List ℕ} {labels m 
     unfolding operation_at position
     speculated =
         ap (λ (n : ℕ). speculate program window n at labels m) is_one
-        ∙ window-opened program window at labels m (eq-eqb (opcode_at program.list i) 5 o.branch) (executed_one is_one o.ran) other other_is.0
+        ∙ window_opened program window at labels m (eq-eqb (opcode_at program.list i) 5 o.branch) (executed_one is_one o.ran) other other_is.0
 
     -- the words of the operation, then those of its window
     words-after : log_after (take done.logged log₁ ++ marked w.position.log) log₁ ≡ log_after (one.position.log ++ marked w.position.log) log

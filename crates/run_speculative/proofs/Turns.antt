@@ -34,9 +34,9 @@ speculating program window budget start log journal labels m pre = record {
 
 module _ {program : Program} {window budget start : ℕ} {log₀ journal₀ : List ℕ} {labels₀ m₀ : Memory} {i executed k : ℕ} {log journal : List ℕ} {labels m : Memory}
     (g : Speculating program window budget start log₀ journal₀ labels₀ m₀ i executed k log journal labels m) (most : ℕ) (em : most ≡ turn_of (not (eqb window 0)) budget) where
-  pub may-speculate : Valid (lengths_of m) program.list × (i ≤ operation_count program.list) × (k ≤ length log) × (lengths_of labels ≡ lengths_of m)
+  pub may_speculate : Valid (lengths_of m) program.list × (i ≤ operation_count program.list) × (k ≤ length log) × (lengths_of labels ≡ lengths_of m)
       × (settings_in_range program.settings ≡ true) × (eqb window 0 ≡ false → most ≤ 1) × (journal_words window ≤ length journal)
-  may-speculate =
+  may_speculate =
       let may = may_turn (speculate_laws program window) g.turning most em in
       (may.0, may.1, may.2, may.3.lengths refl, may.5, λ z. may.4 (rw z refl), rw g.spared.same_length g.room)
 

@@ -11,9 +11,9 @@ module _ (i : ℕ) (done w : Report) (log-ends ahead : ℕ) (el : log-ends ≡ c
   unfolding ending_ahead
   ahead_is = rw (ea, el) refl
 
-  pub answer-ended : (ahead ≡ 0 → ⊥) → r ≡ record { ending = ahead; index = i; executed = 0; logged = w.logged; value = 0 } → r ≡ answer_after i done w
+  pub answer_ended : (ahead ≡ 0 → ⊥) → r ≡ record { ending = ahead; index = i; executed = 0; logged = w.logged; value = 0 } → r ≡ answer_after i done w
   unfolding answer_after
-  answer-ended n e = e ∙ rw (ahead_is, ne_eqb ahead 0 n) refl
+  answer_ended n e = e ∙ rw (ahead_is, ne_eqb ahead 0 n) refl
 
   pub answer_goes_on : ahead ≡ 0 → r ≡ record { ending = done.ending; index = done.index; executed = done.executed; logged = w.logged; value = done.value }
       → r ≡ answer_after i done w
@@ -24,9 +24,9 @@ pub some_executed : (window executed : ℕ) (none : Bool) → none ≡ eqb windo
 some_executed window executed none en f = neither (eqb window 0) (eqb executed 0) (rw (← en) f)
 
 module _ (list : List ℕ) (i window : ℕ) (done : Report) (none : Bool) (en : none ≡ eqb window 0 || eqb done.executed 0) where
-  pub none-opened : none ≡ true → false ≡ opens_window list i window done
+  pub none_opened : none ≡ true → false ≡ opens_window list i window done
   unfolding opens_window
-  none-opened t = rw (← en, t) refl
+  none_opened t = rw (← en, t) refl
 
   pub looked : none ≡ false → (opcode : ℕ) → opcode ≡ opcode_at list i → (v : Varnode) → v ≡ varnode_at list i 1 → (leaves r : Bool)
       → leaves ≡ eqb done.index (i + 1) && not (eqb v.space 1) → r ≡ eqb opcode 5 && not leaves → r ≡ opens_window list i window done

@@ -76,9 +76,9 @@ module _ (op : Operation) (offset : ℕ) where
   unfolding source_of
   source_loaded e = rw e refl
 
-  pub source-stored : eqb op.opcode 2 ≡ false → eqb op.opcode 3 ≡ true → op.input2 ≡ source_of op offset
+  pub source_stored : eqb op.opcode 2 ≡ false → eqb op.opcode 3 ≡ true → op.input2 ≡ source_of op offset
   unfolding source_of
-  source-stored n e = rw (n, e) refl
+  source_stored n e = rw (n, e) refl
 
   pub source_other : eqb op.opcode 2 ≡ false → eqb op.opcode 3 ≡ false → op.input0 ≡ source_of op offset
   unfolding source_of
@@ -130,10 +130,10 @@ module _ (big : Bool) (labels : Memory) (op : Operation) (offset : ℕ) (e : mem
 
 -- the labels of a varnode, by significance
 module _ (big : Bool) (labels : Memory) (v : Varnode) where
-  pub word-ordered : OfBytes labels → (n : ℕ) → n ≡ value_of false (bytes_at labels v)
+  pub word_ordered : OfBytes labels → (n : ℕ) → n ≡ value_of false (bytes_at labels v)
       → (r : ℕ) → ((k : ℕ) → k < v.size → digit 256 r k ≡ digit 256 n (significance big v.size k)) → (n < 256 ^ v.size → r < 256 ^ v.size) → WordOf big labels v r
   unfolding significance
-  word-ordered bytes n en r er below = record { bytes = at; below = below (rw en (word_fits labels v bytes)) }
+  word_ordered bytes n en r er below = record { bytes = at; below = below (rw en (word_fits labels v bytes)) }
     where
       at : (k : ℕ) → k < v.size → digit 256 r k ≡ label_of big labels v k
       at k l =
@@ -263,19 +263,19 @@ module _ (labels : Memory) (list : List ℕ) (i offset : ℕ) (pre : Readable la
 -- ---- PIECE, SUBPIECE, INT_ZEXT, INT_SEXT
 
 -- the integer operations that move bytes, one by one
-pub late-moves : (n : ℕ) → first_integer ≤ n → member n moving ≡ member n (10 ∷ 11 ∷ 19 ∷ 20 ∷ [])
+pub late_moves : (n : ℕ) → first_integer ≤ n → member n moving ≡ member n (10 ∷ 11 ∷ 19 ∷ 20 ∷ [])
 unfolding member
-late-moves n l = rw (ne_eqb n 1 (λ e. omega arith), ne_eqb n 2 (λ e. omega arith), ne_eqb n 3 (λ e. omega arith)) refl
+late_moves n l = rw (ne_eqb n 1 (λ e. omega arith), ne_eqb n 2 (λ e. omega arith), ne_eqb n 3 (λ e. omega arith)) refl
 
 each_late_move : (P : ℕ → Type 0) → P 10 → P 11 → P 19 → P 20 → (n : ℕ) → first_integer ≤ n → member n moving ≡ true → P n
 unfolding member
 each_late_move P p10 p11 p19 p20 n l e =
     when n 10 (λ q. subst P (sym q) p10) (λ n10. when n 11 (λ q. subst P (sym q) p11) (λ n11. when n 19 (λ q. subst P (sym q) p19) (λ n19. when n 20 (λ q. subst P (sym q) p20) (λ n20.
-    absurd (true≢false (sym e ∙ late-moves n l ∙ rw (n10, n11, n19, n20) refl))))))
+    absurd (true≢false (sym e ∙ late_moves n l ∙ rw (n10, n11, n19, n20) refl))))))
 
 module _ (labels : Memory) (list : List ℕ) (i : ℕ) (pre : MovesBytes labels list i) where
-  pub place-moved : (k : ℕ) → k ≤ most_inputs → Placed labels (varnode_at list i k)
-  place-moved k l = place labels list pre.valid i pre.index k l (λ z. late_no_branch (opcode_at list i) pre.integer)
+  pub place_moved : (k : ℕ) → k ≤ most_inputs → Placed labels (varnode_at list i k)
+  place_moved k l = place labels list pre.valid i pre.index k l (λ z. late_no_branch (opcode_at list i) pre.integer)
 
   some : (k : ℕ) → k ≤ most_inputs → has_place (opcode_at list i) k ≡ true → 1 ≤ (varnode_at list i k).size
   some k l h = ((pre.valid.operations i pre.index).present k l h).2
@@ -299,7 +299,7 @@ module _ (labels : Memory) (list : List ℕ) (i : ℕ) (pre : MovesBytes labels 
 
   pub size_extended : opcode_at list i ≡ 20 → (varnode_at list i 1).size < 8
   size_extended e =
-      let most = (place-moved 0 (omega arith)).size in
+      let most = (place_moved 0 (omega arith)).size in
       let l = larger _ _ _ _ _ e (pre.valid.operations i pre.index).sized in
       omega arith
 
@@ -321,7 +321,7 @@ module _ (labels : Memory) (list : List ℕ) (i : ℕ) (pre : MovesBytes labels 
       piece_fits =
           let s = some_input0 in
           let j = sizes_joined e in
-          let most = (place-moved 0 (omega arith)).size in
+          let most = (place_moved 0 (omega arith)).size in
           (omega arith, lt_of_lt_of_le (piece_lt _ (varnode_at list i 1).size (varnode_at list i 2).size a b j wa.below wb.below) (size_most _ most))
 
       pub moved-piece : (r : ℕ) → r ≡ piece (varnode_at list i 2).size a b → MovedWord big labels (operation_at list i) r
@@ -341,7 +341,7 @@ module _ (labels : Memory) (list : List ℕ) (i : ℕ) (pre : MovesBytes labels 
         → MovedWord big labels (operation_at list i) r
     unfolding label_extended operation_at
     moved_extended e r er o k h =
-        let most = (place-moved 0 (omega arith)).size in
+        let most = (place_moved 0 (omega arith)).size in
         let size0 : ℕ = (varnode_at list i 1).size in
         let told : cond (ltb k size0) (digit 256 a k) (digit 256 a (size0 - 1)) ≡ label_of big labels (varnode_at list i 1) (cond (ltb k size0) k (size0 - 1)) =
         rw (label0 k, label0 (size0 - 1)) (sym (label_either big labels (varnode_at list i 1) (ltb k size0) k (size0 - 1))) in

@@ -20,22 +20,22 @@ use Rattle.machine.proofs.Conditions.{absent_public}
 use Rattle.run_memory.specs.Placed.{Placed}
 use Rattle.run_plan.specs.Valid.{Valid}
 use Rattle.run_plan.proofs.Bounds.{nowhere}
-use Rattle.run_plan.proofs.Opcodes.{divides-member, each-access, each_jump, late_no-access, late_no_branch, late_no_jump}
+use Rattle.run_plan.proofs.Opcodes.{divides-member, each_access, each_jump, late_no_access, late_no_branch, late_no_jump}
 use Rattle.run_plan.proofs.Places.{placed}
 
 -- ---- opcodes of one class are of no other
 
 access_no_jump : (n : ℕ) → accesses n ≡ true → jumps n ≡ false
 unfolding jumps member
-access_no_jump n a = each-access (λ k. jumps k ≡ false) refl refl n a
+access_no_jump n a = each_access (λ k. jumps k ≡ false) refl refl n a
 
 condition_no_jump : (n : ℕ) → eqb n 5 ≡ true → jumps n ≡ false
 unfolding jumps member
 condition_no_jump n e = rw (eqb-true n 5 e) refl
 
-jump_no-access : (n : ℕ) → jumps n ≡ true → accesses n ≡ false
+jump_no_access : (n : ℕ) → jumps n ≡ true → accesses n ≡ false
 unfolding accesses member
-jump_no-access n j = each_jump (λ k. accesses k ≡ false) refl refl refl n j
+jump_no_access n j = each_jump (λ k. accesses k ≡ false) refl refl refl n j
 
 jump_no_branch : (n : ℕ) → jumps n ≡ true → branches n ≡ false
 unfolding branches member
@@ -76,7 +76,7 @@ leaks_division : (labels : Memory) (op : Operation) → divides op.opcode ≡ tr
 leaks_division labels op d =
     let l = division_late op.opcode d in
     or_commutes (has_secret labels op.input0) (has_secret labels op.input1)
-    ∙ sym (leaks_by labels op ∙ rw (late_no-access op.opcode l, ne_eqb op.opcode 5 (λ e. omega arith), late_no_jump op.opcode l, d) refl)
+    ∙ sym (leaks_by labels op ∙ rw (late_no_access op.opcode l, ne_eqb op.opcode 5 (λ e. omega arith), late_no_jump op.opcode l, d) refl)
 
 pub operands_tell : (labels : Memory) (list : List ℕ) (i : ℕ) → divides (opcode_at list i) ≡ true
     → has_secret labels (varnode_at list i 1) || has_secret labels (varnode_at list i 2) ≡ leaks labels (operation_at list i)
@@ -89,10 +89,10 @@ watched n v0 v1 = cond (jumps n) v0 (cond (accesses n || eqb n 5) v1 absent)
 
 module _ (n : ℕ) (v0 v1 : Varnode) where
   watched_late : first_integer ≤ n → watched n v0 v1 ≡ absent
-  watched_late l = rw (late_no_jump n l, late_no-access n l, ne_eqb n 5 (λ e. omega arith)) refl
+  watched_late l = rw (late_no_jump n l, late_no_access n l, ne_eqb n 5 (λ e. omega arith)) refl
 
-  pub watched-tested : accesses n || eqb n 5 ≡ true → watched n v0 v1 ≡ v1
-  watched-tested h = by (accesses n) refl (eqb n 5) refl
+  pub watched_tested : accesses n || eqb n 5 ≡ true → watched n v0 v1 ≡ v1
+  watched_tested h = by (accesses n) refl (eqb n 5) refl
     where
       by : (p : Bool) → accesses n ≡ p → (c : Bool) → eqb n 5 ≡ c → watched n v0 v1 ≡ v1
       by true e c f = rw (access_no_jump n e, e) refl
@@ -122,7 +122,7 @@ leaks_watched labels op d = leaks_by labels op ∙ rw d (or_false _ ∙ or_false
     by : (j : Bool) → jumps n ≡ j
         → (accesses n && has_secret labels op.input1) || (eqb n 5 && has_secret labels op.input1) || (jumps n && has_secret labels op.input0)
         ≡ has_secret labels (watched n op.input0 op.input1)
-    by true e = rw (jump_no-access n e, jump_no_condition n e, e) refl
+    by true e = rw (jump_no_access n e, jump_no_condition n e, e) refl
     by false e = rw (e, tested (accesses n || eqb n 5)) (or_false _ ∙ by_one (accesses n) (eqb n 5) (has_secret labels op.input1))
 
 -- an integer operation that is no division: nothing

@@ -9,7 +9,7 @@ use Rattle.machine.specs.Memory.{Memory, spaces, lengths_of}
 use Rattle.machine.specs.Counts.{counts_fit}
 use Rattle.machine.specs.MovedCounts.{MovedSpaces}
 use Rattle.machine.specs.Recounts.{WordsOf}
-use Rattle.machine.proofs.MovedCounts.{moved-spaces_none, moved-spaces_on, moved-spaces_told, moved-spaces_lengths}
+use Rattle.machine.proofs.MovedCounts.{moved_spaces_none, moved_spaces_on, moved_spaces_told, moved_spaces_lengths}
 
 -- u, r and m are the labels of the three spaces before the window, u', r' and m' those at its end
 module _ {u r m u' r' m' : List ℕ} {counts counts' : Memory} (eu : length u' ≡ length u) (er : length r' ≡ length r) (em : length m' ≡ length m)
@@ -19,12 +19,12 @@ module _ {u r m u' r' m' : List ℕ} {counts counts' : Memory} (eu : length u' �
   lengths = rw (eu, er, em) refl
 
   pub still_fit : counts_fit (lengths_of (spaces u r m)) (lengths_of counts) ≡ true → counts_fit (lengths_of (spaces u' r' m')) (lengths_of counts') ≡ true
-  still_fit t = rw (lengths, moved-spaces_lengths moved) t
+  still_fit t = rw (lengths, moved_spaces_lengths moved) t
 
   -- 64-bit words, whatever they held
   pub given_back : {labels'' counts'' : Memory} → MovedSpaces low_bit (spaces u' r' m') labels'' counts' counts'' → labels'' ≡ spaces u r m → WordsOf counts'' → WordsOf counts
       → counts'' ≡ counts
   given_back {counts'' = counts''} back e w w₀ =
       let whole : MovedSpaces low_bit (spaces u r m) (spaces u r m) counts counts'' =
-      subst (λ (l : Memory). MovedSpaces low_bit (spaces u r m) l counts counts'') e (moved-spaces_on lengths moved back) in
-      moved-spaces_told w w₀ whole (moved-spaces_none (spaces u r m) counts)
+      subst (λ (l : Memory). MovedSpaces low_bit (spaces u r m) l counts counts'') e (moved_spaces_on lengths moved back) in
+      moved_spaces_told w w₀ whole (moved_spaces_none (spaces u r m) counts)

@@ -11,7 +11,7 @@ use Rattle.word.specs.Sum.{tabulate}
 use Rattle.word.specs.Word.{part}
 use Rattle.word.proofs.Laws.{part_at, stored-after}
 use Rattle.word.proofs.Sums.{tabulate-length}
-use Rattle.word.proofs.Stores.{Storing, storing_none, storing_more, storing-length, storing_all, entries}
+use Rattle.word.proofs.Stores.{Storing, storing_none, storing_more, storing_length, storing_all, entries}
 use Rattle.validation.specs.Verdict.{lengths_in_range}
 use Rattle.operation.specs.declared.report.Report.{Report}
 use Rattle.machine.specs.Program.{Program}
@@ -19,7 +19,7 @@ use Rattle.machine.specs.Memory.{Memory, lengths_of}
 use Rattle.machine.specs.Run.{Position, Ended, ended, run}
 use Rattle.machine.specs.Calls.{Outcome, log_after, outcome_of, labelled_outcome, starting}
 use Rattle.machine.proofs.Budget.{later, later_ended, fresh, fresh_later}
-use Rattle.machine.proofs.Limits.{log-length}
+use Rattle.machine.proofs.Limits.{log_length}
 use Rattle.speculation.specs.Window.{ahead, window_mark, marked}
 use Rattle.speculation.proofs.Below.{Below, run_below, below_at}
 use Rattle.speculation.proofs.Runs.{marked-length}
@@ -47,8 +47,8 @@ marking_none log from to h =
     record { passed = omega arith; within = h; stored = rw none (storing_none _ (to - from) from log) }
 
 module _ {log₀ : List ℕ} {from to : ℕ} {log : List ℕ} {k : ℕ} (g : Marking log₀ from to log k) where
-  pub marking-length : length log ≡ length log₀
-  marking-length = storing-length g.stored
+  pub marking_length : length log ≡ length log₀
+  marking_length = storing_length g.stored
 
   pub marking_all : to ≤ k → log ≡ words_marked log₀ from to
   unfolding words_marked part
@@ -101,23 +101,23 @@ module _ (program : Program) (window start from : ℕ) (log : List ℕ) (labels 
   before-length : length before ≡ from
   before-length = length-take-le from log place
 
-  all-length : length (before ++ words) ≡ from + length words
-  all-length = length-append before words ∙ rw before-length refl
+  all_length : length (before ++ words) ≡ from + length words
+  all_length = length-append before words ∙ rw before-length refl
 
   log_is : log₁ ≡ before ++ words ++ drop (from + length words) log
   unfolding outcome_of later_ended later ended log_after
-  log_is = ap (λ (o : Outcome). o.log) outcome_is ∙ rw all-length refl
+  log_is = ap (λ (o : Outcome). o.log) outcome_is ∙ rw all_length refl
 
   logged_is : went.logged ≡ from + length words
   unfolding outcome_of later_ended later ended
-  logged_is = ap (λ (o : Outcome). o.report.logged) outcome_is ∙ all-length
+  logged_is = ap (λ (o : Outcome). o.report.logged) outcome_is ∙ all_length
 
   fits : from + length words ≤ length log
   unfolding later_ended later ended
   fits =
       let l : length (run program window (position start from 0 log) labels m).position.log ≤ length log = part-words (run_laws program) window start from log labels m place in
       let n : length (before ++ words) ≤ length log = rw run_is at l in
-      omega (arith, n, all-length)
+      omega (arith, n, all_length)
 
   behind : drop from log₁ ≡ words ++ drop (from + length words) log
   behind =
@@ -127,7 +127,7 @@ module _ (program : Program) (window start from : ℕ) (log : List ℕ) (labels 
 
   same_length : length log₁ ≡ length log
   unfolding outcome_of later_ended later ended
-  same_length = ap length (ap (λ (o : Outcome). o.log) outcome_is) ∙ log-length (before ++ words) log (rw all-length fits)
+  same_length = ap length (ap (λ (o : Outcome). o.log) outcome_is) ∙ log_length (before ++ words) log (rw all_length fits)
 
   words_there : part log₁ from (length words) ≡ words
   unfolding part
@@ -157,15 +157,15 @@ module _ (program : Program) (window start from : ℕ) (log : List ℕ) (labels 
       let l : length (before ++ marked words) ≡ from + length words = length-append before (marked words) ∙ rw (before-length, marked-length words) refl in
       rw (n, words_there, stored, marked-length words, front, rest, l) refl
 
-  pub window-left : (m₂ labels₂ : Memory) → m₂ ≡ m → labels₂ ≡ labels
+  pub window_left : (m₂ labels₂ : Memory) → m₂ ≡ m → labels₂ ≡ labels
       → labelled_outcome went m₂ labels₂ (words_marked log₁ from went.logged) ≡ window_outcome from log labels m w
   unfolding window_outcome outcome_of later_ended later ended
-  window-left m₂ labels₂ em el =
+  window_left m₂ labels₂ em el =
       let r : went ≡ record {
         ending = w.ending;
         index = w.position.index;
         executed = w.position.executed;
         logged = from + length words;
         value = w.value;
-      } = ap (λ (o : Outcome). o.report) outcome_is ∙ rw (all-length, zero-add) refl in
+      } = ap (λ (o : Outcome). o.report) outcome_is ∙ rw (all_length, zero-add) refl in
       rw (em, el, marked-words, r) refl

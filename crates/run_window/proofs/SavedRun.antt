@@ -64,9 +64,9 @@ module _ {program : Program} {window start from : ℕ} {log₀ journal₀ : List
       × (lengths_of labels ≡ lengths_of m) × (entry_words * executed + entry_words ≤ length journal)
   may_save = (still_valid, g.turning.index, g.turning.settings, g.saved.undoable.lengths, entry_room g.saved g.room g.more)
 
-  pub may-run : Valid (lengths_of m) program.list × (i ≤ operation_count program.list) × (k ≤ length log) × Fitting true labels m
+  pub may_run : Valid (lengths_of m) program.list × (i ≤ operation_count program.list) × (k ≤ length log) × Fitting true labels m
       × (settings_in_range program.settings ≡ true)
-  may-run = (
+  may_run = (
     still_valid,
     g.turning.index,
     g.turning.logs.place,

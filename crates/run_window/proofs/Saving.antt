@@ -30,7 +30,7 @@ use Rattle.run_execution.proofs.Running.{run_end}
 use Rattle.run_labelled.proofs.Marking.{plan_inside, plan_next}
 use Rattle.run_journal.specs.declared.Entry.{Entry}
 use Rattle.run_journal.specs.Journal.{target_before, number_at, entry_of, entry_words, words_of as entry_as_words, entry_in, restored, bytes_of_entry, labels_of_entry, undone}
-use Rattle.run_journal.proofs.Undoing.{entry-written, entry-before, back, back_same, undone_same, placed_with}
+use Rattle.run_journal.proofs.Undoing.{entry_written, entry_before, back, back_same, undone_same, placed_with}
 use Rattle.run_window.specs.Windows.{Spared, Saved}
 
 -- ---- what one operation writes to was known before it
@@ -132,11 +132,11 @@ module _ {window n : ℕ} {journal₀ journal : List ℕ} {labels₀ m₀ labels
     }
 
     before : (k : ℕ) → k < n → entry_in journal' k ≡ entry_in journal k
-    before k h = rw e (entry-before journal n entry_room entry k h)
+    before k h = rw e (entry_before journal n entry_room entry k h)
 
     here : entry_in journal' n ≡ entry
     unfolding entry_of
-    here = rw e (entry-written journal n entry_room (entry_of labels m target) (let h : target.size ≤ 8 = p.size in omega arith))
+    here = rw e (entry_written journal n entry_room (entry_of labels m target) (let h : target.size ≤ 8 = p.size in omega arith))
 
     before-undone : (number : Entry → ℕ) (x : Memory) → undone journal' number n x ≡ undone journal number n x
     before-undone number = undone_same journal' journal number n before

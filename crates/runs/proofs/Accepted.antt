@@ -24,7 +24,7 @@ use Rattle.machine.specs.Calls.{Outcome, unlabelled, plain_outcome, labelled_out
 use Rattle.machine.specs.Counts.{run_counts, counts_fit, counted_outcome, counted_refusal, counted_run, counting, counting_refusal, counts_filled, count_secrets}
 use Rattle.machine.specs.MovedCounts.{MovedSpaces}
 use Rattle.machine.specs.Recounts.{WordsOf}
-use Rattle.machine.proofs.MovedCounts.{moved-spaces_told, moved_labels, counts_fit_lem}
+use Rattle.machine.proofs.MovedCounts.{moved_spaces_told, moved_labels, counts_fit_lem}
 use Rattle.machine.proofs.CountedRuns.{run_moved, run_counts-words}
 use Rattle.machine.proofs.Runs.{run_laws, started_kept}
 use Rattle.machine.proofs.Ranges.{space_small}
@@ -95,12 +95,12 @@ plain_of report m unique register ram log outcome u r l e =
 
 module _ (settings : Settings) (list : List ℕ) (start budget window : ℕ) (log journal : List ℕ) (labels m : Memory) (found refused : Report) (f : found ≡ refused) where
   -- the journal's further words stayed, and its first ones were cleared
-  ran-ahead : found.ending ≡ 0 → (report : Report) (m' labels' : Memory) (log' journal' cleared : List ℕ)
+  ran_ahead : found.ending ≡ 0 → (report : Report) (m' labels' : Memory) (log' journal' cleared : List ℕ)
       → labelled_outcome report m' labels' log' ≡ outcome_of log (speculate (program_of settings list) window budget (position start 0 0 log) labels m)
       → Spared window journal journal' → cleared ≡ journal_after window journal'
       → speculation report m' labels' log' cleared ≡ called_ahead settings list start budget window log journal labels m refused
   unfolding called_ahead position starting journal_after
-  ran-ahead h report m' labels' log' journal' cleared e s c =
+  ran_ahead h report m' labels' log' journal' cleared e s c =
       ap (λ (o : Outcome). record { outcome = o; journal = cleared }) e ∙ rw (← f, eq-eqb found.ending 0 h, sub-zero, c, s.further) refl
 
 -- ---- counts
@@ -109,7 +109,7 @@ module _ (settings : Settings) (list : List ℕ) (start budget window : ℕ) (lo
 counts_told : {labels labels' after counts counts' counted : Memory} → labels' ≡ after → labels_in_range labels ≡ true → labels_in_range after ≡ true
     → MovedSpaces low_bit labels labels' counts counts' → MovedSpaces secret_weight labels after counts counted → WordsOf counts' → WordsOf counted → counts' ≡ counted
 counts_told {labels} {labels'} {after} {counts} {counts'} e before range moved turned w w' =
-    moved-spaces_told w w' (moved_labels before range (subst (λ (l : Memory). MovedSpaces low_bit labels l counts counts') e moved)) turned
+    moved_spaces_told w w' (moved_labels before range (subst (λ (l : Memory). MovedSpaces low_bit labels l counts counts') e moved)) turned
 
 -- 11 for counts, as the code asks it
 fits_found : (same : Bool) (lent : Bool) (lengths words : Lengths) (m counts : Memory) → lent ≡ counts_fit lengths words → lengths ≡ lengths_of m → words ≡ lengths_of counts
@@ -171,27 +171,27 @@ module _ (settings : Settings) (list : List ℕ) (start budget : ℕ) (log : Lis
 
 -- ---- the speculative run with counts
 
-pub counted_found-ahead : (settings : Settings) (list : List ℕ) (start window : ℕ) (journal : List ℕ) (labels m counts : Memory) (found : Report) (lent : Bool) (lengths words : Lengths)
+pub counted_found_ahead : (settings : Settings) (list : List ℕ) (start window : ℕ) (journal : List ℕ) (labels m counts : Memory) (found : Report) (lent : Bool) (lengths words : Lengths)
     → found ≡ speculative_refusal settings (lengths_of m) list start window (length journal) (same_lengths (lengths_of labels) (lengths_of m) && lent) (labels_in_range labels)
     → lent ≡ counts_fit lengths words → lengths ≡ lengths_of m → words ≡ lengths_of counts
     → found ≡ counted_speculative_refusal settings list start window journal labels m counts
 unfolding counted_speculative_refusal
-counted_found-ahead settings list start window journal labels m counts found lent lengths words f e l w =
+counted_found_ahead settings list start window journal labels m counts found lent lengths words f e l w =
     f ∙ ap (λ (t : Bool). speculative_refusal settings (lengths_of m) list start window (length journal) t (labels_in_range labels))
     (fits_found (same_lengths (lengths_of labels) (lengths_of m)) lent lengths words m counts e l w)
 
 module _ (settings : Settings) (list : List ℕ) (start budget window : ℕ) (log journal : List ℕ) (labels m counts : Memory) (found : Report) where
   module _ (f : found ≡ counted_speculative_refusal settings list start window journal labels m counts) where
-    pub counted_refused-ahead : (found.ending ≡ 0 → ⊥)
+    pub counted_refused_ahead : (found.ending ≡ 0 → ⊥)
         → counted_speculation found m labels counts log journal ≡ counted_speculative_run settings list start budget window log journal labels m counts
     unfolding counted_speculative_run called_ahead
-    counted_refused-ahead h = rw (← f, ne_eqb found.ending 0 h) refl
+    counted_refused_ahead h = rw (← f, ne_eqb found.ending 0 h) refl
 
     module _ (h : found.ending ≡ 0) where
-      pub counted_accepted-ahead : Valid (lengths_of m) list × (start ≤ operation_count list) × (lengths_of labels ≡ lengths_of m) × (settings_in_range settings ≡ true)
+      pub counted_accepted_ahead : Valid (lengths_of m) list × (start ≤ operation_count list) × (lengths_of labels ≡ lengths_of m) × (settings_in_range settings ≡ true)
           × (journal_words window ≤ length journal) × (counts_fit (lengths_of labels) (lengths_of counts) ≡ true) × (labels_in_range labels ≡ true)
       unfolding counted_speculative_refusal
-      counted_accepted-ahead =
+      counted_accepted_ahead =
           let same : Bool = same_lengths (lengths_of labels) (lengths_of m) in
           let fitting : Bool = same && counts_fit (lengths_of m) (lengths_of counts) in
           let c = ahead_accepted settings (lengths_of m) list start window (length journal) fitting (labels_in_range labels) (eq-eqb _ 0 (rw f at h)) in
@@ -200,24 +200,24 @@ module _ (settings : Settings) (list : List ℕ) (start budget window : ℕ) (lo
           let e = same_lengths_are _ _ b.0 in
           (a.0, a.1, e, a.4, c.2, label_fits labels m counts e b.1, a.3)
 
-      pub counted_ran-ahead : (report : Report) (m' labels' counts' : Memory) (log' journal' cleared : List ℕ)
+      pub counted_ran_ahead : (report : Report) (m' labels' counts' : Memory) (log' journal' cleared : List ℕ)
           → labelled_outcome report m' labels' log' ≡ outcome_of log (speculate (program_of settings list) window budget (position start 0 0 log) labels m)
           → Spared window journal journal' → cleared ≡ journal_after window journal'
           → MovedSpaces low_bit labels labels' counts counts' → WordsOf counts → WordsOf counts'
           → counted_speculation report m' labels' counts' log' cleared ≡ counted_speculative_run settings list start budget window log journal labels m counts
       unfolding counted_speculative_run outcome_of
-      counted_ran-ahead report m' labels' counts' log' journal' cleared e s c moved w w' =
+      counted_ran_ahead report m' labels' counts' log' journal' cleared e s c moved w w' =
           let program : Program = program_of settings list in
           let at : Position = starting start (length log) in
           let here : speculate program window budget (position start 0 0 log) labels m ≡ speculate program window budget at labels m =
           ap (λ (p : Position). speculate program window budget p labels m) (started start log) in
-          let a = counted_accepted-ahead in
+          let a = counted_accepted_ahead in
           let told : counts' ≡ speculate_counts program window budget at labels m counts =
           counts_told (ap (λ (o : Outcome). o.labels) e ∙ ap (λ (q : Ended). q.labels) here) a.6
           ((started_kept (speculate_laws program window) start budget log labels m).values a.6) moved
           (speculate-moved program window budget at labels m counts a.5) w' (speculate_counts-words program window budget at labels m counts w) in
           ap (λ (o : Speculation). record { speculation = o; counts = counts' })
-          (ran-ahead settings list start budget window log journal labels m found (counted_speculative_refusal settings list start window journal labels m counts) f h report m' labels' log' journal' cleared e s c)
+          (ran_ahead settings list start budget window log journal labels m found (counted_speculative_refusal settings list start window journal labels m counts) f h report m' labels' log' journal' cleared e s c)
           ∙ rw (told, ← f, eq-eqb found.ending 0 h) refl
 
 -- ---- filling

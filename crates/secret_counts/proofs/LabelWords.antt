@@ -146,11 +146,11 @@ module _ (weight : ℕ → ℕ) (extent j : ℕ) where
   tally_block : (b i : ℕ) (ls : List ℕ) → b * 64 ≤ i → i + length ls ≤ b * 64 + 64
       → tally weight extent j i ls ≡ cond (eqb j (blocks extent) || eqb j b) (weigh weight ls) 0
   unfolding tally covers weigh
-  tally_block b i [] l h = either-zero (eqb j (blocks extent) || eqb j b)
+  tally_block b i [] l h = either_zero (eqb j (blocks extent) || eqb j b)
     where
-      either-zero : (t : Bool) → ◌≡◌ {A = ℕ} 0 (cond t 0 0)
-      either-zero true = refl
-      either-zero false = refl
+      either_zero : (t : Bool) → ◌≡◌ {A = ℕ} 0 (cond t 0 0)
+      either_zero true = refl
+      either_zero false = refl
   tally_block b i (x ∷ ls) l h =
       let e : i / 64 ≡ b = omega arith in
       rw (e, tally_block b (suc i) ls (omega arith) (omega arith)) (both (eqb j (blocks extent) || eqb j b))
@@ -258,9 +258,9 @@ module _ (extent at size old new more : ℕ) (counts : List ℕ) (some : 1 ≤ s
     near_word j false false ep eq =
         rw (grew_elsewhere summed block more j (eqb-false j block eq), grew_elsewhere counts last more j (eqb-false j last ep)) refl
 
-    pub near-moved : Moved low_bit extent at (bytes_of false size old) (bytes_of false size new) counts nearby
+    pub near_moved : Moved low_bit extent at (bytes_of false size old) (bytes_of false size new) counts nearby
     unfolding count_words
-    near-moved = record {
+    near_moved = record {
       same_length = rw (length-set, length-set) refl;
       words = λ j h. rw (near_counts j old, near_counts j new) (near_word j (eqb j last) (eqb j block) refl refl);
       further = λ j h.
@@ -367,9 +367,9 @@ module _ (extent at size old new more : ℕ) (counts : List ℕ) (some : 1 ≤ s
         )
         refl
 
-    pub far-moved : Moved low_bit extent at (bytes_of false size old) (bytes_of false size new) counts beyond
+    pub far_moved : Moved low_bit extent at (bytes_of false size old) (bytes_of false size new) counts beyond
     unfolding count_words
-    far-moved = record {
+    far_moved = record {
       same_length = rw (length-set, length-set, length-set) refl;
       words = λ j h. rw (far_counts j old, far_counts j new) (far_word j (eqb j last) (eqb j block) (eqb j (block + 1)) refl refl refl);
       further = λ j h.

@@ -18,9 +18,9 @@ use Rattle.secret_counts.proofs.Moves.{moved_none, moved_told}
 -- ---- one label
 
 -- its count moves by as much as its weight
-count-moved : (old new count : ℕ) → (count_after old new count + secret_weight old) % 2 ^ 64 ≡ (count + secret_weight new) % 2 ^ 64
+count_moved : (old new count : ℕ) → (count_after old new count + secret_weight old) % 2 ^ 64 ≡ (count + secret_weight new) % 2 ^ 64
 unfolding count_after secret_weight flag
-count-moved old new count = by (is_secret old) (is_secret new)
+count_moved old new count = by (is_secret old) (is_secret new)
   where
     by : (o n : Bool)
         → (cond n (cond o count ((count + 1) % 2 ^ 64)) (cond o ((count + (2 ^ 64 - 1)) % 2 ^ 64) count) + flag o) % 2 ^ 64 ≡ (count + flag n) % 2 ^ 64
@@ -49,9 +49,9 @@ module _ (j old new : ℕ) (counts : List ℕ) where
   unfolding word_moved
   word_other k n = get_or-set_other counts j k _ 0 n
 
-  word-length : length (word_moved j old new counts) ≡ length counts
+  word_length : length (word_moved j old new counts) ≡ length counts
   unfolding word_moved
-  word-length = length-set counts j _
+  word_length = length-set counts j _
 
   -- a word of 64 bits stays one
   word_word : (k : ℕ) → get_or counts k 0 < 2 ^ 64 → get_or (word_moved j old new counts) k 0 < 2 ^ 64
@@ -69,9 +69,9 @@ module _ (extent i old new : ℕ) (counts : List ℕ) where
   abbrev block : List ℕ
   block = word_moved (i / block_bytes) old new counts
 
-  label-length : length (label_changed extent i old new counts) ≡ length counts
+  label_length : length (label_changed extent i old new counts) ≡ length counts
   unfolding label_changed
-  label-length = word-length (blocks extent) old new block ∙ word-length (i / block_bytes) old new counts
+  label_length = word_length (blocks extent) old new block ∙ word_length (i / block_bytes) old new counts
 
   label_word : (k : ℕ) → get_or counts k 0 < 2 ^ 64 → get_or (label_changed extent i old new counts) k 0 < 2 ^ 64
   unfolding label_changed
@@ -95,14 +95,14 @@ module _ (extent i old new : ℕ) (counts : List ℕ) where
 
         here : get_or (word_moved (blocks extent) old new block) j 0 ≡ count_after old new (get_or counts j 0)
             → (get_or (word_moved (blocks extent) old new block) j 0 + secret_weight old) % 2 ^ 64 ≡ (get_or counts j 0 + secret_weight new) % 2 ^ 64
-        here e = rw e (count-moved old new (get_or counts j 0))
+        here e = rw e (count_moved old new (get_or counts j 0))
 
         by : (t : Bool) → eqb j (blocks extent) ≡ t → (b : Bool) → eqb j (i / block_bytes) ≡ b
             → (get_or (word_moved (blocks extent) old new block) j 0 + cond (t || b) (secret_weight old) 0) % 2 ^ 64
             ≡ (get_or counts j 0 + cond (t || b) (secret_weight new) 0) % 2 ^ 64
         by true t b e =
             let total : j ≡ blocks extent = eqb-true j (blocks extent) t in
-            here (word_same (blocks extent) old new block j total (omega (arith, word-length (i / block_bytes) old new counts))
+            here (word_same (blocks extent) old new block j total (omega (arith, word_length (i / block_bytes) old new counts))
             ∙ ap (count_after old new) (word_other (i / block_bytes) old new counts j (λ z. omega (arith, below))))
         by false t true e =
             here (word_other (blocks extent) old new block j (eqb-false j (blocks extent) t)
@@ -123,17 +123,17 @@ first a b c o n x y e f =
     plus (c + x) (b + y) o (c + (o + x)) (b + o + y) f (omega arith) (omega arith)
     ∙ plus (b + o) (a + n) y (b + o + y) (a + (n + y)) e (omega arith) (omega arith)
 
-pub changed-moved : (extent i : ℕ) (before after counts : List ℕ) → length after ≡ length before → i + length before ≤ extent → count_words extent ≤ length counts
+pub changed_moved : (extent i : ℕ) (before after counts : List ℕ) → length after ≡ length before → i + length before ≤ extent → count_words extent ≤ length counts
     → Moved secret_weight extent i before after counts (labels_changed extent i before after counts)
 unfolding labels_changed tally
-changed-moved extent i [] [] counts e h long = moved_none [] counts
-changed-moved extent i [] (new ∷ after) counts e h long = absurd (let z : ⊥ = omega arith in z)
-changed-moved extent i (old ∷ before) [] counts e h long = absurd (let z : ⊥ = omega arith in z)
-changed-moved extent i (old ∷ before) (new ∷ after) counts e h long =
+changed_moved extent i [] [] counts e h long = moved_none [] counts
+changed_moved extent i [] (new ∷ after) counts e h long = absurd (let z : ⊥ = omega arith in z)
+changed_moved extent i (old ∷ before) [] counts e h long = absurd (let z : ⊥ = omega arith in z)
+changed_moved extent i (old ∷ before) (new ∷ after) counts e h long =
     let next : List ℕ = label_changed extent i old new counts in
-    let same = label-length extent i old new counts in
+    let same = label_length extent i old new counts in
     let inside : i < extent = omega arith in
-    let rest = changed-moved extent (suc i) before after next (omega arith) (omega arith) (rw same long) in
+    let rest = changed_moved extent (suc i) before after next (omega arith) (omega arith) (rw same long) in
     record {
       same_length = rest.same_length ∙ same;
       words = λ j l. first (get_or counts j 0) (get_or next j 0) (get_or (labels_changed extent (suc i) before after next) j 0) _ _ _ _ (label-moved extent i old new counts inside long j) (rest.words j l);
@@ -147,8 +147,8 @@ changed_word extent i (old ∷ before) [] counts k h = h
 changed_word extent i (old ∷ before) (new ∷ after) counts k h =
     changed_word extent (suc i) before after (label_changed extent i old new counts) k (label_word extent i old new counts k h)
 
-pub changed-words : (extent i : ℕ) (before after counts : List ℕ) → Words64 counts → Words64 (labels_changed extent i before after counts)
-changed-words extent i before after counts h k = changed_word extent i before after counts k (h k)
+pub changed_words : (extent i : ℕ) (before after counts : List ℕ) → Words64 counts → Words64 (labels_changed extent i before after counts)
+changed_words extent i before after counts h k = changed_word extent i before after counts k (h k)
 
 -- ---- what the words count is a recount
 
@@ -250,7 +250,7 @@ module _ {before after counts counts' : List ℕ} (e : length after ≡ length b
 changed_turned : (before after counts : List ℕ) → length after ≡ length before → count_words (length before) ≤ length counts
     → Turned before after counts (counts_changed before after counts)
 unfolding counts_changed
-changed_turned before after counts e long = turned_of e (changed-moved (length before) 0 before after counts e (omega arith) long)
+changed_turned before after counts e long = turned_of e (changed_moved (length before) 0 before after counts e (omega arith) long)
 
 -- true counts, word by word
 module _ (labels counts : List ℕ) where
@@ -293,7 +293,7 @@ pub count_laws : CountLaws
 unfolding counts_changed filled
 count_laws = record {
   turned = changed_turned;
-  words64 = λ before after. changed-words (length before) 0 before after;
+  words64 = λ before after. changed_words (length before) 0 before after;
   told = λ before after counts first second wf ws p q.
       moved_told {weight = secret_weight} {i = 0} wf ws (moved_none before first)
       (record {

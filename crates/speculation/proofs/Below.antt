@@ -30,9 +30,9 @@ pub data Below : List ℕ → Type 0 where
   none : Below []
   more : {w : ℕ} {ws : List ℕ} → w < window_mark → Below ws → Below (w ∷ ws)
 
-below-append : {a b : List ℕ} → Below a → Below b → Below (a ++ b)
-below-append none q = q
-below-append (more h p) q = more h (below-append p q)
+below_append : {a b : List ℕ} → Below a → Below b → Below (a ++ b)
+below_append none q = q
+below_append (more h p) q = more h (below_append p q)
 
 pub below_at : {ws : List ℕ} → Below ws → (k : ℕ) → k < length ws → get_or ws k 0 < window_mark
 below_at none k h = absurd (omega arith)
@@ -101,8 +101,8 @@ module _ (program : Program) where
       → BelowStep (apply_decision program k op at labels m x d)
   unfolding apply_decision ended advanced
   applied_below k op at labels m x stops e h = halts h
-  applied_below k op at labels m x (exited w) e h = halts (below-append h w)
-  applied_below k op at labels m x (nexts w) e h = goes (written_range m (target k op x) _ e) (below-append h w)
+  applied_below k op at labels m x (exited w) e h = halts (below_append h w)
+  applied_below k op at labels m x (nexts w) e h = goes (written_range m (target k op x) _ e) (below_append h w)
 
   stepped_below : (at : Position) (labels m : Memory) → InRange m → Below at.log → BelowStep (stepped program at labels m)
   unfolding stepped execute execute_as ended

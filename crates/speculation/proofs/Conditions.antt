@@ -46,9 +46,9 @@ module _ (program : Program) (window : ℕ) (op : Operation) (at : Position) (la
       by true = refl
       by false = refl
 
-  counted-position : (j : ℕ) (w : Ended) → with_words w (after j) ≡ exact_position at j (suc at.executed) b w
+  counted_position : (j : ℕ) (w : Ended) → with_words w (after j) ≡ exact_position at j (suc at.executed) b w
   unfolding with_words advanced exact_position
-  counted-position j w = rw (flag_word, append_assoc, marked-words w.position.log) refl
+  counted_position j w = rw (flag_word, append_assoc, marked-words w.position.log) refl
 
   uncounted-position : (j : ℕ) (w : Ended) → with_words w (uncounted at (after j)) ≡ exact_position at at.index at.executed b w
   unfolding with_words uncounted advanced exact_position
@@ -109,11 +109,11 @@ module _ (program : Program) (window : ℕ) (op : Operation) (at : Position) (la
       by : (t : Bool) → eqb b 0 ≡ t → Destination at.index op.input0
           → Executed (cond (not t && eqb op.input0.space 4) (Stepped.halted (ended 1 op.input0.offset (after at.index) labels m))
           (Stepped.going (after (cond (not t && eqb op.input0.space 1) ((at.index + op.input0.offset) % 2 ^ 64) (suc at.index))) labels m))
-      by true t d = record { to = suc at.index; reaches = refl; passes = refl; goes = λ w. rw (counted-position (suc at.index) w, t) refl }
+      by true t d = record { to = suc at.index; reaches = refl; passes = refl; goes = λ w. rw (counted_position (suc at.index) w, t) refl }
       by false t (in_list s f l) =
           let j = (at.index + op.input0.offset) % 2 ^ 64 in
-          rw (s, f) (record { to = j; reaches = refl; passes = refl; goes = λ w. rw (counted-position j w, t, f) refl })
-      by false t (in_ram s f) = rw (s, f) (record { to = at.index; reaches = refl; passes = refl; goes = λ w. rw (counted-position at.index w, t, f) refl })
+          rw (s, f) (record { to = j; reaches = refl; passes = refl; goes = λ w. rw (counted_position j w, t, f) refl })
+      by false t (in_ram s f) = rw (s, f) (record { to = at.index; reaches = refl; passes = refl; goes = λ w. rw (counted_position at.index w, t, f) refl })
 
   abbrev executed : Stepped
   executed =
@@ -124,9 +124,9 @@ module _ (program : Program) (window : ℕ) (op : Operation) (at : Position) (la
   checked leak full = cond leak (Stepped.halted (ended 31 0 at labels m)) (cond full (Stepped.halted (ended 34 0 at labels m)) executed)
 
   -- LEAK, then LOG, then it is executed
-  right-checked : op.opcode ≡ 5 → Destination at.index op.input0 → execute program op at labels m ≡ checked (has_secret labels op.input1) (eqb at.room 0)
+  right_checked : op.opcode ≡ 5 → Destination at.index op.input0 → execute program op at labels m ≡ checked (has_secret labels op.input1) (eqb at.room 0)
   unfolding execute kind_of exact_step_by
-  right-checked five d =
+  right_checked five d =
       ap (λ (k : Kind). execute_as program k op at labels m) (ap kind_of five)
       ∙ cbranched program op at labels m word op.input0.offset _ absent [] 0 refl refl refl refl d
       ∙ rw (absent-written labels absent _ refl, absent-written m absent _ refl) refl
@@ -134,7 +134,7 @@ module _ (program : Program) (window : ℕ) (op : Operation) (at : Position) (la
   branch_exact : op.opcode ≡ 5 → Destination at.index op.input0 → (let right = execute program op at labels m in
       cond (eqb op.opcode 5 && passed right) (tried program window at labels m right (other_way op at.index b)) right ≡ exact_branch program window op at labels m)
   unfolding exact_branch passed ended
-  branch_exact five d = rw (eq-eqb op.opcode 5 five, right-checked five d) (by (has_secret labels op.input1) (eqb at.room 0))
+  branch_exact five d = rw (eq-eqb op.opcode 5 five, right_checked five d) (by (has_secret labels op.input1) (eqb at.room 0))
     where
       by : (s f : Bool)
           → cond (passed (checked s f)) (tried program window at labels m (checked s f) (other_way op at.index b)) (checked s f)

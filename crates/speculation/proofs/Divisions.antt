@@ -21,10 +21,10 @@ use Rattle.machine.specs.Divisions.{division_at, divided_after, divided}
 use Rattle.machine.proofs.Pointwise.{Spaces}
 use Rattle.machine.proofs.Secrecy.{Public, stepped-view}
 use Rattle.machine.proofs.Noninterference.{spaces_from}
-use Rattle.machine.proofs.Divisions.{finds-secret, leak-divides_nothing, step-view, divided-view}
+use Rattle.machine.proofs.Divisions.{finds_secret, leak_divides_nothing, step_view, divided-view}
 use Rattle.speculation.specs.Window.{Way, way_of, other_way, ahead, window_of, with_words, right_way, reached, after_window, tried, passed, speculated}
 use Rattle.speculation.specs.Divisions.{divided_ahead, divided_in_window, speculatively_divided, branch_and_divisions, branch_to_the_end, branches_and_division, SpeculativeDivisions}
-use Rattle.speculation.proofs.Noninterference.{same-passed, same-reached, stepped_public, same_way, speculated-view}
+use Rattle.speculation.proofs.Noninterference.{same_passed, same_reached, stepped_public, same_way, speculated-view}
 
 -- ---- windows
 
@@ -34,22 +34,22 @@ module _ (program : Program) {labels m n : Memory} (r : Spaces Public labels m n
   ahead-view window room Way.outside = refl
   ahead-view window room (Way.inside i) = divided-view program window (starting i room) labels m n r
 
-  window-view : (window : ℕ) (at : Position) → divided_in_window program window at labels m ≡ divided_in_window program window at labels n
+  window_view : (window : ℕ) (at : Position) → divided_in_window program window at labels m ≡ divided_in_window program window at labels n
   unfolding divided_in_window
-  window-view window at = by (eqb op.opcode 5 && passed (stepped program at labels m)) refl
+  window_view window at = by (eqb op.opcode 5 && passed (stepped program at labels m)) refl
     where
       op : Operation
       op = operation_at program.list at.index
 
       by : (t : Bool) → eqb op.opcode 5 && passed (stepped program at labels m) ≡ t
           → divided_in_window program window at labels m ≡ divided_in_window program window at labels n
-      by true e = rw (← (same-passed (stepped-view program r at)), e, same_way program r at e, same-reached (stepped-view program r at)) (ahead-view window _ _)
-      by false e = rw (← (same-passed (stepped-view program r at)), e) refl
+      by true e = rw (← (same_passed (stepped-view program r at)), e, same_way program r at e, same_reached (stepped-view program r at)) (ahead-view window _ _)
+      by false e = rw (← (same_passed (stepped-view program r at)), e) refl
 
 -- ---- the run
 
 -- LEAK opens no window
-leak_alone : (program : Program) (window : ℕ) (at : Position) (labels m : Memory) → finds-secret (operation_at program.list at.index) labels ≡ true
+leak_alone : (program : Program) (window : ℕ) (at : Position) (labels m : Memory) → finds_secret (operation_at program.list at.index) labels ≡ true
     → speculated program window at labels m ≡ stepped program at labels m
 unfolding speculated
 leak_alone program window at labels m g = rw (by (passed (stepped program at labels m)) refl, and-false) refl
@@ -58,19 +58,19 @@ leak_alone program window at labels m g = rw (by (passed (stepped program at lab
     by true e = absurd (true≢false (sym g ∙ stepped_public program at labels m e))
     by false e = e
 
-leak-divides : (division : List ℕ) (f : Position → Memory → Memory → List ℕ) (program : Program) (window : ℕ) (at : Position) (labels m : Memory)
-    → finds-secret (operation_at program.list at.index) labels ≡ true → divided_after division f (speculated program window at labels m) ≡ []
-leak-divides division f program window at labels m g = rw (leak_alone program window at labels m g) (leak-divides_nothing division f program at labels m g)
+leak_divides : (division : List ℕ) (f : Position → Memory → Memory → List ℕ) (program : Program) (window : ℕ) (at : Position) (labels m : Memory)
+    → finds_secret (operation_at program.list at.index) labels ≡ true → divided_after division f (speculated program window at labels m) ≡ []
+leak_divides division f program window at labels m g = rw (leak_alone program window at labels m g) (leak_divides_nothing division f program at labels m g)
 
-speculatively-view : (program : Program) (window budget : ℕ) (at : Position) (labels m n : Memory) → Spaces Public labels m n
+speculatively_view : (program : Program) (window budget : ℕ) (at : Position) (labels m n : Memory) → Spaces Public labels m n
     → speculatively_divided program window budget at labels m ≡ speculatively_divided program window budget at labels n
 unfolding speculatively_divided
-speculatively-view program window zero at labels m n r = refl
-speculatively-view program window (suc budget) at labels m n r =
+speculatively_view program window zero at labels m n r = refl
+speculatively_view program window (suc budget) at labels m n r =
     let rest : Position → Memory → Memory → List ℕ = speculatively_divided program window budget in
-    ap₂ ◌++◌ (window-view program r window at)
-    (step-view program r at.index rest (λ at' l m' n' r'. speculatively-view program window budget at' l m' n' r') (speculated-view program r window at)
-    (λ division g. (leak-divides division rest program window at labels m g, leak-divides division rest program window at labels n g)))
+    ap₂ ◌++◌ (window_view program r window at)
+    (step_view program r at.index rest (λ at' l m' n' r'. speculatively_view program window budget at' l m' n' r') (speculated-view program r window at)
+    (λ division g. (leak_divides division rest program window at labels m g, leak_divides division rest program window at labels n g)))
 
 -- ---- known answers
 
@@ -91,5 +91,5 @@ speculative_divisions = record {
   window_first = known_answers.0;
   ending_window = known_answers.1;
   full_log = known_answers.2;
-  same = λ program window budget at labels first second t l. speculatively-view program window budget at labels first second (spaces_from t l);
+  same = λ program window budget at labels first second t l. speculatively_view program window budget at labels first second (spaces_from t l);
 }

@@ -51,13 +51,13 @@ below_parts : (a b : List ℕ) → Below (a ++ b) → Below a × Below b
 below_parts [] b h = (none, h)
 below_parts (w ∷ a) b (more l h) = let p = below_parts a b h in (more l p.0, p.1)
 
-aside-unmarked : {a b : List ℕ} → Aside a b → Below b → unmarked a ≡ b
+aside_unmarked : {a b : List ℕ} → Aside a b → Below b → unmarked a ≡ b
 unfolding unmarked
-aside-unmarked Aside.start h = refl
-aside-unmarked (Aside.own {a} {b} s ws) h =
+aside_unmarked Aside.start h = refl
+aside_unmarked (Aside.own {a} {b} s ws) h =
     let p = below_parts b ws h in
-    rw (unmarked-append a ws, aside-unmarked s p.0, unmarked_below p.1) refl
-aside-unmarked (Aside.other {a} s ws) h = rw (unmarked-append a (marked ws), unmarked-marked ws, append-nil) (aside-unmarked s h)
+    rw (unmarked-append a ws, aside_unmarked s p.0, unmarked_below p.1) refl
+aside_unmarked (Aside.other {a} s ws) h = rw (unmarked-append a (marked ws), unmarked-marked ws, append-nil) (aside_unmarked s h)
 
 -- ---- the call
 
@@ -72,7 +72,7 @@ outcome_aside log {r} {q} e b =
       value = e.value;
       memory = e.memory;
       labels = e.labels;
-      log = ap unmarked (logged-words r.position.log log) ∙ aside-unmarked p.2 b ∙ sym (logged-words q.position.log log);
+      log = ap unmarked (logged-words r.position.log log) ∙ aside_unmarked p.2 b ∙ sym (logged-words q.position.log log);
     }
 
 outcome_far : (log : List ℕ) {r q : Ended} → Reaches r q → AsFar (outcome_of log r) (outcome_of log q)
@@ -127,9 +127,9 @@ called_far settings list start budget window log journal labels m refused = by (
         outcome_far log (rw all at far.reaches)
     by false = record { index = refl; executed = refl; memory = refl; labels = refl }
 
-pub against-labelled : AgainstLabelled
+pub against_labelled : AgainstLabelled
 unfolding speculative_run labelled_run most_ahead journal_words
-against-labelled = record {
+against_labelled = record {
   aside = λ settings list start budget window log journal labels m w j n34 n35.
       let fitting = same_lengths (lengths_of labels) (lengths_of m) in
       let valid = labels_in_range labels in

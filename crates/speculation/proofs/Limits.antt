@@ -118,13 +118,13 @@ module _ (settings : Settings) (list : List ℕ) (start budget window : ℕ) (lo
       ran_limited log labels m (laws.counts budget from labels m) (started_kept laws start budget log labels m).log
   call_limited (refused r l h a) = refused_limited log labels m r budget
 
-  call-words : {s : Speculation} → Call s → s.outcome.report.logged ≤ budget * (window + 1)
+  call_words : {s : Speculation} → Call s → s.outcome.report.logged ≤ budget * (window + 1)
   unfolding outcome_of starting
-  call-words (ran j) =
+  call_words (ran j) =
       let program = program_of settings list in
       let l = run_writes (speculate_repeats program window) (suc window) (speculated_writes window program) budget from labels m in
       rw (add-one window) (omega (arith, l))
-  call-words (refused r l h a) = omega (arith, (refusal_report_lem r).1)
+  call_words (refused r l h a) = omega (arith, (refusal_report_lem r).1)
 
 -- ---- operations
 
@@ -152,7 +152,7 @@ speculative_limits = record {
       call_cleared settings list start budget window log journal labels m (call settings list start budget window log journal labels m) (λ x y. omega (arith, h, y));
   endings = λ settings list start budget window log journal labels m. call_answer settings list start budget window log journal labels m (call settings list start budget window log journal labels m);
   limited = λ settings list start budget window log journal labels m. call_limited settings list start budget window log journal labels m (call settings list start budget window log journal labels m);
-  words = λ settings list start budget window log journal labels m. call-words settings list start budget window log journal labels m (call settings list start budget window log journal labels m);
+  words = λ settings list start budget window log journal labels m. call_words settings list start budget window log journal labels m (call settings list start budget window log journal labels m);
   ahead_limited = ahead_limited;
   counted = λ program window at at' labels m labels' m'. counted_operation (speculated_counts program window at labels m) at' labels' m';
   stopped_operation = λ program window at labels m r e h. stopped_operation (speculated_counts program window at labels m) r e (λ z. omega (arith, h, z));

@@ -19,7 +19,7 @@ use Rattle.machine.specs.Calls.{same_lengths, labels_in_range, starting}
 use Rattle.machine.specs.Noninterference.{LowEquivalent}
 use Rattle.machine.proofs.Pointwise.{Spaces}
 use Rattle.machine.proofs.Refusals.{refusal_report_lem}
-use Rattle.machine.proofs.Secrecy.{Public, SameView, SameSteps, halts, goes, public-tested, ended-view, stepped-view, continued-view, run-view}
+use Rattle.machine.proofs.Secrecy.{Public, SameView, SameSteps, halts, goes, public_tested, ended-view, stepped-view, continued-view, run-view}
 use Rattle.machine.proofs.Noninterference.{spaces_from, outcome-view}
 use Rattle.speculation.specs.Window.{Way, Window, other_way, ahead, window_of, with_words, uncounted, right_way, reached, after_window, tried, passed, speculated}
 use Rattle.speculation.specs.Speculation.{speculate, journal_after, called_ahead, speculative_run}
@@ -28,31 +28,31 @@ use Rattle.speculation.proofs.Accepted.{ahead_refuses, ahead_accepted}
 
 -- ---- what two operations that cannot be told apart share
 
-pub same-passed : {a b : Stepped} → SameSteps a b → passed a ≡ passed b
+pub same_passed : {a b : Stepped} → SameSteps a b → passed a ≡ passed b
 unfolding passed
-same-passed (halts v) = rw v.ending refl
-same-passed (goes r) = refl
+same_passed (halts v) = rw v.ending refl
+same_passed (goes r) = refl
 
-pub same-reached : {a b : Stepped} → SameSteps a b → reached a ≡ reached b
+pub same_reached : {a b : Stepped} → SameSteps a b → reached a ≡ reached b
 unfolding reached
-same-reached (halts v) = v.position
-same-reached (goes r) = refl
+same_reached (halts v) = v.position
+same_reached (goes r) = refl
 
 -- the same words after two windows that cannot be told apart
-same-words : {w v : Ended} → SameView w v → {p q : Position} → p ≡ q → with_words w p ≡ with_words v q
+same_words : {w v : Ended} → SameView w v → {p q : Position} → p ≡ q → with_words w p ≡ with_words v q
 unfolding with_words
-same-words s e = rw (s.position, e) refl
+same_words s e = rw (s.position, e) refl
 
-right-view : {w v : Ended} → SameView w v → {a b : Stepped} → SameSteps a b → SameSteps (right_way w a) (right_way v b)
+right_view : {w v : Ended} → SameView w v → {a b : Stepped} → SameSteps a b → SameSteps (right_way w a) (right_way v b)
 unfolding right_way ended
-right-view s (halts x) = halts (record {
+right_view s (halts x) = halts (record {
   ending = x.ending;
   value = x.value;
-  position = same-words s x.position;
+  position = same_words s x.position;
   labels = x.labels;
   memory = x.memory;
 })
-right-view s (goes {at} r) = rw (same-words s {p = at} refl) (goes r)
+right_view s (goes {at} r) = rw (same_words s {p = at} refl) (goes r)
 
 -- ---- where an operation has passed its checks, what must be public is public
 
@@ -89,17 +89,17 @@ module _ (program : Program) {labels m n : Memory} (r : Spaces Public labels m n
       let h = stepped_public program at labels m b.1 in
       let five : op.opcode ≡ 5 = eqb-true op.opcode 5 b.0 in
       let k : secret labels (sinks Kind.cbranch op) ≡ false = rw five at h in
-      ap (other_way op at.index) (public-tested r program.settings Kind.cbranch op k)
+      ap (other_way op at.index) (public_tested r program.settings Kind.cbranch op k)
 
   after-view : (at : Position) {a b : Stepped} → SameSteps a b → {w v : Ended} → SameView w v → (c : Window)
       → SameSteps (after_window at labels m a w c) (after_window at labels n b v c)
   unfolding after_window
-  after-view at s v Window.closes = right-view v s
-  after-view at s v (Window.ends e) = rw (same-words v (ap (uncounted at) (same-reached s))) (halts (ended-view program r e 0 _))
+  after-view at s v Window.closes = right_view v s
+  after-view at s v (Window.ends e) = rw (same_words v (ap (uncounted at) (same_reached s))) (halts (ended-view program r e 0 _))
 
-  window-view : (at : Position) {a b : Stepped} → SameSteps a b → {w v : Ended} → SameView w v
+  window_view : (at : Position) {a b : Stepped} → SameSteps a b → {w v : Ended} → SameView w v
       → SameSteps (after_window at labels m a w (window_of w.ending)) (after_window at labels n b v (window_of v.ending))
-  window-view at {a} {b} s {w} {v} x =
+  window_view at {a} {b} s {w} {v} x =
       subst (λ (c : Window). SameSteps (after_window at labels m a w (window_of w.ending)) (after_window at labels n b v c)) (ap window_of x.ending)
       (after-view at s x (window_of w.ending))
 
@@ -108,7 +108,7 @@ module _ (program : Program) {labels m n : Memory} (r : Spaces Public labels m n
   unfolding tried ahead
   tried-view window at s Way.outside = s
   tried-view window at {b} s (Way.inside i) =
-      rw (same-reached s) (window-view at s (run-view program window (starting i (reached b).room) labels m n r))
+      rw (same_reached s) (window_view at s (run-view program window (starting i (reached b).room) labels m n r))
 
   pub speculated-view : (window : ℕ) (at : Position) → SameSteps (speculated program window at labels m) (speculated program window at labels n)
   unfolding speculated
@@ -122,8 +122,8 @@ module _ (program : Program) {labels m n : Memory} (r : Spaces Public labels m n
 
       by : (t : Bool) → eqb op.opcode 5 && passed (stepped program at labels m) ≡ t
           → SameSteps (speculated program window at labels m) (speculated program window at labels n)
-      by true e = rw (← (same-passed s), e, same_way at e) (tried-view window at s _)
-      by false e = rw (← (same-passed s), e) s
+      by true e = rw (← (same_passed s), e, same_way at e) (tried-view window at s _)
+      by false e = rw (← (same_passed s), e) s
 
 -- ---- the run
 

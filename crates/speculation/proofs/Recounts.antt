@@ -26,8 +26,8 @@ use Rattle.machine.proofs.Order.{refusals_in_order}
 use Rattle.machine.proofs.Budget.{later, stepped_later}
 use Rattle.machine.proofs.Counts.{not_refused}
 use Rattle.machine.proofs.Runs.{started_kept}
-use Rattle.machine.proofs.MovedCounts.{moved-spaces_told}
-use Rattle.machine.proofs.CountedRuns.{Turns, none, more, turns_lengths, turns-words, turns-moved, turns_back, Moves, run_turns, run_turned, run_moved, run_counts-words, counts_restarted}
+use Rattle.machine.proofs.MovedCounts.{moved_spaces_told}
+use Rattle.machine.proofs.CountedRuns.{Turns, none, more, turns_lengths, turns_words, turns_moved, turns_back, Moves, run_turns, run_turned, run_moved, run_counts-words, counts_restarted}
 use Rattle.machine.proofs.Recounts.{CountsLeft, left_lent, left-run, labels_fit, same_counts, counts_short}
 use Rattle.speculation.specs.Window.{Way, ahead, reached, opens_window, other_way_at, speculated}
 use Rattle.speculation.specs.Speculation.{speculate, most_ahead, journal_words, speculative_refusal, speculation, journal_after, called_ahead, speculative_run}
@@ -36,7 +36,7 @@ use Rattle.speculation.specs.Recounts.{CountsOfWindows, CountsOfSpeculativeRuns,
 use Rattle.speculation.proofs.Accepted.{ahead_refuses, ahead-refusal, ahead_accepted}
 use Rattle.speculation.proofs.Noninterference.{speculative_noninterference}
 use Rattle.speculation.proofs.Windows.{Short, not_short}
-use Rattle.speculation.proofs.Runs.{speculate_repeats, later-reached, later-passed, speculated_laws, speculate_laws}
+use Rattle.speculation.proofs.Runs.{speculate_repeats, later_reached, later_passed, speculated_laws, speculate_laws}
 use Rattle.speculation.proofs.Aside.{Aside, placed, speculate_equal}
 use Rattle.speculation.proofs.Limits.{cleared, speculative_limits}
 use Rattle.speculation.proofs.Resume.{resumed_call}
@@ -63,7 +63,7 @@ module _ (program : Program) (window : ℕ) where
   unfolding counts_past_window later
   past_later n words at labels m counts =
       let l = stepped_later n words program at labels m in
-      rw (later-passed n words l, later-reached n words l) refl
+      rw (later_passed n words l, later_reached n words l) refl
 
 pub counts_of_windows : CountsOfWindows
 unfolding counted_on
@@ -89,10 +89,10 @@ module _ (program : Program) (window budget : ℕ) (at : Position) (labels m cou
 
   pub speculate-moved : counts_fit (lengths_of labels) (lengths_of counts) ≡ true
       → MovedSpaces secret_weight labels (speculate program window budget at labels m).labels counts (speculate_counts program window budget at labels m counts)
-  speculate-moved t = turns-moved t speculate_turned
+  speculate-moved t = turns_moved t speculate_turned
 
   pub speculate_counts-words : WordsOf counts → WordsOf (speculate_counts program window budget at labels m counts)
-  speculate_counts-words = turns-words speculate_turned
+  speculate_counts-words = turns_words speculate_turned
 
 -- ---- the call
 
@@ -149,15 +149,15 @@ module _ (settings : Settings) (list : List ℕ) (start budget window : ℕ) (lo
       accepted settings (lengths_of m) list start fitting (labels_in_range labels)
       (ahead_accepted settings (lengths_of m) list start window (length journal) fitting (labels_in_range labels) t).3
 
-  ran-left : eqb refused.ending 0 ≡ true → CountsLeft labels ran.labels counts ran_counts
-  ran-left t = let a = call_accepted t in left-run m list a.lengths_right a.labels_fit (speculate_turned program window budget from labels m counts)
+  ran_left : eqb refused.ending 0 ≡ true → CountsLeft labels ran.labels counts ran_counts
+  ran_left t = let a = call_accepted t in left-run m list a.lengths_right a.labels_fit (speculate_turned program window budget from labels m counts)
 
-  call-left : CountsLeft labels call.speculation.outcome.labels counts call.counts
+  call_left : CountsLeft labels call.speculation.outcome.labels counts call.counts
   unfolding counted_speculative_run called_ahead outcome_of
-  call-left = by (eqb refused.ending 0) refl
+  call_left = by (eqb refused.ending 0) refl
     where
       by : (t : Bool) → eqb refused.ending 0 ≡ t → CountsLeft labels (left t).speculation.outcome.labels counts (left t).counts
-      by true t = ran-left t
+      by true t = ran_left t
       by false t = left_lent labels counts
 
   call_refused : 10 ≤ call.speculation.outcome.report.ending → call.speculation.outcome.report.ending ≤ 27 → call.counts ≡ counts
@@ -174,7 +174,7 @@ module _ (settings : Settings) (list : List ℕ) (start budget window : ℕ) (lo
   ran_aside t w ne =
       let fits = (labels_fit labels m counts (call_accepted t).labels_fit).1 in
       let same = (speculate_equal program window budget from from labels m (placed (omega arith) Aside.start) ne).labels in
-      moved-spaces_told (speculate_counts-words program window budget from labels m counts w) (run_counts-words program budget from labels m counts w)
+      moved_spaces_told (speculate_counts-words program window budget from labels m counts w) (run_counts-words program budget from labels m counts w)
       (rw same at (speculate-moved program window budget from labels m counts fits)) (run_moved program budget from labels m counts fits)
 
   call_aside : WordsOf counts → window ≤ 64 → 4 * window ≤ length journal → (Short call.speculation.outcome.report.ending → ⊥)
@@ -199,7 +199,7 @@ module _ (settings : Settings) (list : List ℕ) (start budget window : ℕ) (lo
       let k = started_kept laws start budget log labels m in
       let (fits, few, long, z) = ahead_accepted settings (lengths_of m) list start window (length journal) fitting (labels_in_range labels) t in
       let a = call_accepted t in
-      rw (k.memory, k.lengths, (ran-left t).count_lengths, k.values a.labels_right, (cleared window journal long).same_length)
+      rw (k.memory, k.lengths, (ran_left t).count_lengths, k.values a.labels_right, (cleared window journal long).same_length)
       (ahead-refusal settings (lengths_of m) list ran.position.index window (length journal) fitting true few long
       ∙ restarted a ran.position.index (laws.index budget from labels m e))
 
@@ -208,7 +208,7 @@ unfolding counted_speculative_refusal
 counts_of_speculative_runs settings list start budget window log journal labels m counts =
     let fitting = same_lengths (lengths_of labels) (lengths_of m) && counts_fit (lengths_of m) (lengths_of counts) in
     let place = speculative_limits.in_order settings (lengths_of m) list start window (length journal) fitting (labels_in_range labels) in
-    let l = call-left settings list start budget window log journal labels m counts in
+    let l = call_left settings list start budget window log journal labels m counts in
     record {
       others = call_others settings list start budget window log journal labels m counts;
       window_refused = λ w. call_setting settings list start budget window log journal labels m counts (place.window_refused w);
@@ -230,8 +230,8 @@ counted_speculative_noninterference settings list start budget window log log' j
     let runs = rw (← one, ← two) at (speculative_noninterference settings list start budget window log log' journal journal' e k labels first second l) in
     record {
       runs = runs;
-      same_counts = same_counts (call-left settings list start budget window log journal labels first counts)
-          (rw (← runs.runs.labels) at (call-left settings list start budget window log' journal' labels second counts'));
+      same_counts = same_counts (call_left settings list start budget window log journal labels first counts)
+          (rw (← runs.runs.labels) at (call_left settings list start budget window log' journal' labels second counts'));
     }
 
 -- ---- resuming

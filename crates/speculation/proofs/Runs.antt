@@ -146,15 +146,15 @@ module _ (c : ℕ) (words : List ℕ) where
   unfolding with_words later
   words_later w at = rw append_assoc
 
-  pub later-reached : {a b : Stepped} → Later c words a b → reached a ≡ later c words (reached b)
+  pub later_reached : {a b : Stepped} → Later c words a b → reached a ≡ later c words (reached b)
   unfolding reached later_ended ended
-  later-reached Later.halts = refl
-  later-reached Later.goes = refl
+  later_reached Later.halts = refl
+  later_reached Later.goes = refl
 
-  pub later-passed : {a b : Stepped} → Later c words a b → passed a ≡ passed b
+  pub later_passed : {a b : Stepped} → Later c words a b → passed a ≡ passed b
   unfolding passed later_ended ended
-  later-passed Later.halts = refl
-  later-passed Later.goes = refl
+  later_passed Later.halts = refl
+  later_passed Later.goes = refl
 
   right_later : (w : Ended) {a b : Stepped} → Later c words a b → Later c words (right_way w a) (right_way w b)
   unfolding right_way later_ended ended
@@ -166,19 +166,19 @@ module _ (c : ℕ) (words : List ℕ) where
         → Later c words (after_window (later c words at) labels m a w x) (after_window at labels m b w x)
     unfolding after_window uncounted later later_ended ended
     after_later l w Window.closes = right_later w l
-    after_later {a} {b} l w (Window.ends e) = rw (later-reached l, words_later w (uncounted at (reached b))) Later.halts
+    after_later {a} {b} l w (Window.ends e) = rw (later_reached l, words_later w (uncounted at (reached b))) Later.halts
 
     tried_later : {a b : Stepped} → Later c words a b → (way : Way)
         → Later c words (tried program window (later c words at) labels m a way) (tried program window at labels m b way)
     unfolding tried later
     tried_later l Way.outside = l
-    tried_later {a} {b} l (Way.inside i) = rw (later-reached l) (after_later l _ _)
+    tried_later {a} {b} l (Way.inside i) = rw (later_reached l) (after_later l _ _)
 
     speculated_later : Later c words (speculated program window (later c words at) labels m) (speculated program window at labels m)
     unfolding speculated later
     speculated_later =
         let l = stepped_later c words program at labels m in
-        rw (later-passed l)
+        rw (later_passed l)
         (either₂ (Later c words) (eqb (operation_at program.list at.index).opcode 5 && passed (stepped program at labels m)) _ _ _ _ (tried_later l _) l)
 
 -- ---- the run

@@ -27,11 +27,11 @@ after_ended at labels m r w =
 -- ---- after a run of one operation
 
 module _ (program : Program) (at : Position) {P : Ended → Type 0} where
-  counted-passed : {a : Stepped} → Counts at P a → (continued (run program 0) a).position.executed ≡ suc at.executed → passed a ≡ true
+  counted_passed : {a : Stepped} → Counts at P a → (continued (run program 0) a).position.executed ≡ suc at.executed → passed a ≡ true
   unfolding passed continued run ended
-  counted-passed (Counts.stays s c p) e = absurd (omega (arith, c, e))
-  counted-passed (Counts.exited {r} s c) e = eq-eqb r.ending 1 s
-  counted-passed (Counts.goes c) e = refl
+  counted_passed (Counts.stays s c p) e = absurd (omega (arith, c, e))
+  counted_passed (Counts.exited {r} s c) e = eq-eqb r.ending 1 s
+  counted_passed (Counts.goes c) e = refl
 
   uncounted_stopped : {a : Stepped} → Counts at P a → (continued (run program 0) a).position.executed ≡ at.executed → passed a ≡ false
   unfolding passed continued run ended
@@ -45,11 +45,11 @@ reached-position program (Stepped.halted r) = refl
 reached-position program (Stepped.going at labels m) = refl
 
 module _ (program : Program) (window : ℕ) (at : Position) (labels m : Memory) where
-  right-ended : (w : Ended) (a : Stepped) → (let r = continued (run program 0) a in
+  right_ended : (w : Ended) (a : Stepped) → (let r = continued (run program 0) a in
       continued (speculate program window 0) (right_way w a) ≡ ended r.ending r.value (with_words w r.position) r.labels r.memory)
   unfolding right_way continued speculate run ended with_words
-  right-ended w (Stepped.halted r) = refl
-  right-ended w (Stepped.going p l n) = refl
+  right_ended w (Stepped.halted r) = refl
+  right_ended w (Stepped.going p l n) = refl
 
   after-ended : (w : Ended) (a : Stepped)
       → continued (speculate program window 0) (after_window at labels m a w (window_of w.ending)) ≡ after_ended at labels m (continued (run program 0) a) w
@@ -68,7 +68,7 @@ module _ (program : Program) (window : ℕ) (at : Position) (labels m : Memory) 
           (cond t (ended 34 0 (with_words w (uncounted at r.position)) labels m) (ended r.ending r.value (with_words w r.position) r.labels r.memory))
       by true t = short 35
       by false true = short 34
-      by false false = right-ended w a
+      by false false = right_ended w a
 
   -- ---- the run of one operation
 
@@ -81,14 +81,14 @@ module _ (program : Program) (window : ℕ) (at : Position) (labels m : Memory) 
   abbrev pub one : Ended
   one = run program 1 at labels m
 
-  alone-ended : (a : Stepped) → continued (speculate program window 0) a ≡ continued (run program 0) a
+  alone_ended : (a : Stepped) → continued (speculate program window 0) a ≡ continued (run program 0) a
   unfolding continued speculate run
-  alone-ended (Stepped.halted r) = refl
-  alone-ended (Stepped.going p l n) = refl
+  alone_ended (Stepped.halted r) = refl
+  alone_ended (Stepped.going p l n) = refl
 
-  one-passed : one.position.executed ≡ suc at.executed → passed (stepped program at labels m) ≡ true
+  one_passed : one.position.executed ≡ suc at.executed → passed (stepped program at labels m) ≡ true
   unfolding run
-  one-passed e = counted-passed program at (stepped_counts program at labels m) e
+  one_passed e = counted_passed program at (stepped_counts program at labels m) e
 
   one_stopped : one.position.executed ≡ at.executed → passed (stepped program at labels m) ≡ false
   unfolding run
@@ -97,7 +97,7 @@ module _ (program : Program) (window : ℕ) (at : Position) (labels m : Memory) 
   -- not a CBRANCH
   pub another_operation : eqb op.opcode 5 ≡ false → speculate program window 1 at labels m ≡ one
   unfolding speculate run speculated
-  another_operation e = rw e (alone-ended (stepped program at labels m))
+  another_operation e = rw e (alone_ended (stepped program at labels m))
 
   -- stopped, or at n
   pub stopped_operation : one.position.executed ≡ at.executed → speculate program window 1 at labels m ≡ one
@@ -105,22 +105,22 @@ module _ (program : Program) (window : ℕ) (at : Position) (labels m : Memory) 
   stopped_operation e = rw (one_stopped e) (by (eqb op.opcode 5) _)
     where
       by : (t : Bool) (a : Stepped) → continued (speculate program window 0) (cond (t && false) a (stepped program at labels m)) ≡ continued (run program 0) (stepped program at labels m)
-      by true a = alone-ended (stepped program at labels m)
-      by false a = alone-ended (stepped program at labels m)
+      by true a = alone_ended (stepped program at labels m)
+      by false a = alone_ended (stepped program at labels m)
 
   -- the other way is outside the list
   pub no_other_way : other ≡ Way.outside → speculate program window 1 at labels m ≡ one
   unfolding speculate run speculated tried
   no_other_way e =
-      rw e (ap (continued (speculate program window 0)) (either_equal (eqb op.opcode 5 && passed (stepped program at labels m)) refl refl) ∙ alone-ended (stepped program at labels m))
+      rw e (ap (continued (speculate program window 0)) (either_equal (eqb op.opcode 5 && passed (stepped program at labels m)) refl refl) ∙ alone_ended (stepped program at labels m))
 
   -- a CBRANCH that was executed, with the other way at index i
-  pub window-opened : eqb op.opcode 5 ≡ true → one.position.executed ≡ suc at.executed → (i : ℕ) → other ≡ Way.inside i
+  pub window_opened : eqb op.opcode 5 ≡ true → one.position.executed ≡ suc at.executed → (i : ℕ) → other ≡ Way.inside i
       → speculate program window 1 at labels m ≡ after_ended at labels m one (ahead program window i one.position.room labels m)
   unfolding speculate run speculated tried
-  window-opened five e i w =
+  window_opened five e i w =
       let a = stepped program at labels m in
-      rw (five, one-passed e, w)
+      rw (five, one_passed e, w)
       (after-ended (ahead program window i (reached a).room labels m) a
       ∙ ap (λ (p : Position). after_ended at labels m (continued (run program 0) a) (ahead program window i p.room labels m)) (reached-position program a))
 
@@ -191,4 +191,4 @@ module _ (program : Program) (at : Position) (labels m : Memory) (five : (operat
   one_way e =
       let a = stepped program at labels m in
       subst (λ (p : Position). WayBy branch at.index (value_at program.settings m branch.input1) p.index) (reached-position program a)
-      (stepped_way (counted-passed program at (stepped_counts program at labels m) e))
+      (stepped_way (counted_passed program at (stepped_counts program at labels m) e))

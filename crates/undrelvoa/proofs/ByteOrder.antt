@@ -12,7 +12,7 @@ use Rattle.word.specs.Word.{part, value_of}
 use Rattle.word.specs.ByteOrder.{GatherCall, ScatterCall}
 use Rattle.word.proofs.ByteOrder.{big_is_little_reversed}
 use Rattle.undrelvoa_faults.specs.Faults.{gather_fault, scatter_fault}
-use Rattle.undrelvoa_faults.proofs.Passed.{gather-passed, scatter-passed}
+use Rattle.undrelvoa_faults.proofs.Passed.{gather_passed, scatter_passed}
 use Rattle.undrelvoa.specs.ByteOrder.{GatherCallC, ScatterCallC, BigIsLittleReversedC}
 use Rattle.undrelvoa.proofs.undrelvoa_gather.Kinds as gather
 use Rattle.undrelvoa.proofs.undrelvoa_gather.Reads as gather-contract
@@ -22,7 +22,7 @@ use Rattle.undrelvoa.proofs.undrelvoa_scatter.Reads as scatter-contract
 gathered : {order offset size : ℕ} {bytes out out' : List ℕ} → GatherCallC order bytes offset size out out' 0
     → GatherCall (eqb order 1) bytes offset size (get_or out' 0 0)
 gathered {order} {offset} {size} {bytes} {out} {out'} c =
-    let passed = gather-passed order (length bytes) offset size (length out) (sym c.ensures_answer) in
+    let passed = gather_passed order (length bytes) offset size (length out) (sym c.ensures_answer) in
     let value : ℕ = value_of (eqb order 1) (part bytes offset size) in
     let first : get_or (set out 0 value) 0 0 ≡ value = get_or-set_same out 0 value 0 passed.0 in
     record { requires = (passed.1, passed.2); ensures = ap (λ (ws : List ℕ). get_or ws 0 0) c.ensures_buffer ∙ first }
@@ -30,7 +30,7 @@ gathered {order} {offset} {size} {bytes} {out} {out'} c =
 scattered : {order offset size value : ℕ} {bytes bytes' : List ℕ} → ScatterCallC order bytes offset size value bytes' 0
     → ScatterCall (eqb order 1) bytes offset size value bytes'
 scattered {order} {offset} {size} {value} {bytes} c =
-    record { requires = scatter-passed order (length bytes) offset size value (sym c.ensures_answer); ensures = c.ensures_buffer }
+    record { requires = scatter_passed order (length bytes) offset size value (sym c.ensures_answer); ensures = c.ensures_buffer }
 
 gather_answers : (byte_count offset size room : ℕ) → gather_fault 1 byte_count offset size room ≡ gather_fault 0 byte_count offset size room
 unfolding gather_fault

@@ -13,8 +13,8 @@ use Rattle.machine.specs.Counts.{CountedOutcome, counted_run, Counting, counting
 use Rattle.speculation.specs.Counts.{CountedSpeculation, counted_speculative_run}
 use Rattle.interpreter.specs.Composition.{LabelledCall, PlainCall, SpeculativeCall, CountingCall, LentAlike}
 use Rattle.interpreter.proofs.Composition.{calls_noninterfere, labelled_calls_resume, plain_calls_resume}
-use Rattle.interpreter.proofs.Composition.{speculative_calls_noninterfere, speculative_calls_resume, speculative_calls_against-labelled, calls_count}
-use Rattle.undrelvoa_faults.proofs.Passed.{lengths-passed, report-passed}
+use Rattle.interpreter.proofs.Composition.{speculative_calls_noninterfere, speculative_calls_resume, speculative_calls_against_labelled, calls_count}
+use Rattle.undrelvoa_faults.proofs.Passed.{lengths_passed, report_passed}
 use Rattle.undrelvoa.specs.Buffers.{report_words, settings_in, Buffers, plain_buffers, after, LabelledBuffers, labelled_buffers, after_labelled}
 use Rattle.undrelvoa.specs.Buffers.{SpeculativeBuffers, speculative_buffers, after_speculation, CountingBuffers, counting_buffers, after_counting}
 use Rattle.undrelvoa.specs.Calls.{PlainCallC, LabelledCallC, SpeculativeCallC, CountingCallC, report_in, ThroughInterpreter, NoninterferenceC, LabelledResumesC, PlainResumesC}
@@ -53,10 +53,10 @@ module _ {settings list : List ℕ} {start budget : ℕ} where
 
   -- its report fits
   plain_fits : (c : PlainCallC settings list start budget) → report_numbers ≤ length c.report
-  plain_fits c = (lengths-passed (length settings) (length c.report) (sym c.answers ∙ c.accepted)).1
+  plain_fits c = (lengths_passed (length settings) (length c.report) (sym c.answers ∙ c.accepted)).1
 
   labelled_fits : (c : LabelledCallC settings list start budget) → report_numbers ≤ length c.report
-  labelled_fits c = (lengths-passed (length settings) (length c.report) (sym c.answers ∙ c.accepted)).1
+  labelled_fits c = (lengths_passed (length settings) (length c.report) (sym c.answers ∙ c.accepted)).1
 
 module _ {settings list : List ℕ} {start budget window : ℕ} where
   speculative_leaves : (c : SpeculativeCallC settings list start budget window)
@@ -65,13 +65,13 @@ module _ {settings list : List ℕ} {start budget window : ℕ} where
   speculative_leaves c = c.leaves ∙ rw (eq-eqb c.answer 0 c.accepted) refl
 
   speculative_fits : (c : SpeculativeCallC settings list start budget window) → report_numbers ≤ length c.report
-  speculative_fits c = (lengths-passed (length settings) (length c.report) (sym c.answers ∙ c.accepted)).1
+  speculative_fits c = (lengths_passed (length settings) (length c.report) (sym c.answers ∙ c.accepted)).1
 
 counting_leaves : (c : CountingCallC) → counting_buffers c.counts' c.report' ≡ after_counting c.report (count_secrets c.labels c.counts)
 counting_leaves c = c.leaves ∙ rw (eq-eqb c.answer 0 c.accepted) refl
 
 counting_fits : (c : CountingCallC) → report_numbers ≤ length c.report
-counting_fits c = report-passed (length c.report) (sym c.answers ∙ c.accepted)
+counting_fits c = report_passed (length c.report) (sym c.answers ∙ c.accepted)
 
 -- the outcome that the buffers hold
 outcome_in : Buffers → Outcome
@@ -84,32 +84,32 @@ held report o h = ap (λ (r : Report). labelled_outcome r o.memory o.labels o.lo
 labelled_in : LabelledBuffers → CountedOutcome
 labelled_in b = record { outcome = outcome_in b.buffers; counts = b.counts }
 
-held-labelled : (report : List ℕ) (o : CountedOutcome) → report_numbers ≤ length report → labelled_in (after_labelled report o) ≡ o
+held_labelled : (report : List ℕ) (o : CountedOutcome) → report_numbers ≤ length report → labelled_in (after_labelled report o) ≡ o
 unfolding after_labelled labelled_in
-held-labelled report o h = ap (λ (x : Outcome). record { outcome = x; counts = o.counts }) (held report o.outcome h)
+held_labelled report o h = ap (λ (x : Outcome). record { outcome = x; counts = o.counts }) (held report o.outcome h)
 
 speculation_in : SpeculativeBuffers → CountedSpeculation
 speculation_in b = record { speculation = record { outcome = outcome_in b.buffers.buffers; journal = b.journal }; counts = b.buffers.counts }
 
-held-speculation : (report : List ℕ) (s : CountedSpeculation) → report_numbers ≤ length report → speculation_in (after_speculation report s) ≡ s
+held_speculation : (report : List ℕ) (s : CountedSpeculation) → report_numbers ≤ length report → speculation_in (after_speculation report s) ≡ s
 unfolding after_speculation speculation_in
-held-speculation report s h =
+held_speculation report s h =
     ap (λ (x : Outcome). record { speculation = record { outcome = x; journal = s.speculation.journal }; counts = s.counts }) (held report s.speculation.outcome h)
 
 counting_in : CountingBuffers → Counting
 counting_in b = counting (report_in b.report) b.counts
 
-held-counting : (report : List ℕ) (o : Counting) → report_numbers ≤ length report → counting_in (after_counting report o) ≡ o
+held_counting : (report : List ℕ) (o : Counting) → report_numbers ≤ length report → counting_in (after_counting report o) ≡ o
 unfolding after_counting counting_in
-held-counting report o h = ap (λ (r : Report). counting r o.counts) (read_back report o.report h)
+held_counting report o h = ap (λ (r : Report). counting r o.counts) (read_back report o.report h)
 
 pub through_interpreter : ThroughInterpreter
 unfolding after outcome_in after_labelled labelled_in after_speculation speculation_in after_counting counting_in
 through_interpreter = record {
   plain = λ c. ap outcome_in (plain_leaves c) ∙ held c.report _ (plain_fits c);
-  labelled = λ c. ap labelled_in (labelled_leaves c) ∙ held-labelled c.report _ (labelled_fits c);
-  speculative = λ c. ap speculation_in (speculative_leaves c) ∙ held-speculation c.report _ (speculative_fits c);
-  counting = λ c. ap counting_in (counting_leaves c) ∙ held-counting c.report _ (counting_fits c);
+  labelled = λ c. ap labelled_in (labelled_leaves c) ∙ held_labelled c.report _ (labelled_fits c);
+  speculative = λ c. ap speculation_in (speculative_leaves c) ∙ held_speculation c.report _ (speculative_fits c);
+  counting = λ c. ap counting_in (counting_leaves c) ∙ held_counting c.report _ (counting_fits c);
   plain_lent = λ c. ap (λ (b : Buffers). drop report_numbers b.report) (plain_leaves c) ∙ behind c.report _ (plain_fits c);
   labelled_lent = λ c. ap (λ (b : LabelledBuffers). drop report_numbers b.buffers.report) (labelled_leaves c) ∙ behind c.report _ (labelled_fits c);
   speculative_lent = λ c.
@@ -203,14 +203,14 @@ unfolding speculative
 speculative_resumes_c settings list start budget further window first second whole =
     speculative_calls_resume _ _ _ _ _ _ (speculative first) (speculative second) (speculative whole)
 
-pub speculative_against-labelled_c : SpeculativeAgainstLabelledC
+pub speculative_against_labelled_c : SpeculativeAgainstLabelledC
 unfolding speculative labelled
-speculative_against-labelled_c = record {
-  aside = λ s l a. speculative_calls_against-labelled.aside (speculative s) (labelled l) (lent_alike a);
-  counts = λ s l a. speculative_calls_against-labelled.counts (speculative s) (labelled l) (lent_alike a);
-  below = λ l. speculative_calls_against-labelled.below (labelled l);
-  no_window = λ s l a. speculative_calls_against-labelled.no_window (speculative s) (labelled l) (lent_alike a);
-  no_window_counts = λ s l a. speculative_calls_against-labelled.no_window_counts (speculative s) (labelled l) (lent_alike a);
+speculative_against_labelled_c = record {
+  aside = λ s l a. speculative_calls_against_labelled.aside (speculative s) (labelled l) (lent_alike a);
+  counts = λ s l a. speculative_calls_against_labelled.counts (speculative s) (labelled l) (lent_alike a);
+  below = λ l. speculative_calls_against_labelled.below (labelled l);
+  no_window = λ s l a. speculative_calls_against_labelled.no_window (speculative s) (labelled l) (lent_alike a);
+  no_window_counts = λ s l a. speculative_calls_against_labelled.no_window_counts (speculative s) (labelled l) (lent_alike a);
 }
 
 pub calls_count_c : CallsCountC

@@ -24,8 +24,8 @@ shown_in-length s offset size = by (showable (length s.now) offset size) refl
         simp (length-take, length-drop) (omega arith)
     by false e = refl
 
-nothing-showable : (offset size : ℕ) → 0 ≡ cond (showable 0 offset size) size 0
-nothing-showable offset size = by (showable 0 offset size) refl
+nothing_showable : (offset size : ℕ) → 0 ≡ cond (showable 0 offset size) size 0
+nothing_showable offset size = by (showable 0 offset size) refl
   where
     by : (t : Bool) → showable 0 offset size ≡ t → 0 ≡ cond t size 0
     by true e = let h : offset + size ≤ 0 = showable_end 0 offset size e in omega arith
@@ -42,7 +42,7 @@ shown-length unique register ram space offset size = by (eqb space 2) (eqb space
     by true t3 t4 = shown_in-length unique offset size
     by false true t4 = shown_in-length register offset size
     by false false true = shown_in-length ram offset size
-    by false false false = nothing-showable offset size
+    by false false false = nothing_showable offset size
 
 -- the words of a place, one by one
 pub place-words : (words : List ℕ) (space offset n : ℕ)

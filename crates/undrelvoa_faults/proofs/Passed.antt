@@ -40,17 +40,17 @@ present opcode size size0 size1 t =
 size_most : (size : ℕ) → is_size size ≡ true → size ≤ 8
 size_most size t = (one_to_eight size t).1
 
-room-left : (room : ℕ) → eqb room 0 ≡ false → 0 < room
-room-left room e = let n : room ≡ 0 → ⊥ = eqb-false room 0 e in omega arith
+room_left : (room : ℕ) → eqb room 0 ≡ false → 0 < room
+room_left room e = let n : room ≡ 0 → ⊥ = eqb-false room 0 e in omega arith
 
 nonzero : (d : Bool) (b : ℕ) → d && eqb b 0 ≡ false → d ≡ true → 0 < b
-nonzero d b e t = room-left b (rw t at e)
+nonzero d b e t = room_left b (rw t at e)
 
 -- each test of undrelvoa_value was passed
-pub value-passed : (opcode size size0 size1 a b room : ℕ) → value_fault opcode size size0 size1 a b room ≡ 0
+pub value_passed : (opcode size size0 size1 a b room : ℕ) → value_fault opcode size size0 size1 a b room ≡ 0
     → (0 < room) × Operands opcode size size0 size1 a b
 unfolding value_fault
-value-passed opcode size size0 size1 a b room e =
+value_passed opcode size size0 size1 a b room e =
     let t1 = passed (eqb room 0) 11 _ (omega arith) e in
     let t2 = passed (not (leb first_integer opcode && leb opcode last_integer)) 21 _ (omega arith) t1.1 in
     let t3 = passed (not (sizes_present opcode size size0 size1)) 22 _ (omega arith) t2.1 in
@@ -59,7 +59,7 @@ value-passed opcode size size0 size1 a b room e =
     let t6 = passed (divides opcode && eqb b 0) 33 0 (omega arith) t5.1 in
     let p = present opcode size size0 size1 (not-false (sizes_present opcode size size0 size1) t3.0) in
     let v = both (ltb a (256 ^ size0)) (ltb b (256 ^ size1)) (not-false (ltb a (256 ^ size0) && ltb b (256 ^ size1)) t4.0) in (
-      room-left room t1.0,
+      room_left room t1.0,
       record {
         some = p.some;
         most = p.most;
@@ -74,32 +74,32 @@ value-passed opcode size size0 size1 a b room e =
       },
     )
 
-pub gather-passed : (order length offset size room : ℕ) → gather_fault order length offset size room ≡ 0
+pub gather_passed : (order length offset size room : ℕ) → gather_fault order length offset size room ≡ 0
     → (0 < room) × (size ≤ 8) × (offset + size ≤ length)
 unfolding gather_fault
-gather-passed order length offset size room e =
+gather_passed order length offset size room e =
     let t1 = passed (not (leb order 1)) 10 _ (omega arith) e in
     let t2 = passed (eqb room 0) 11 _ (omega arith) t1.1 in
     let t3 = passed (not (is_size size)) 22 _ (omega arith) t2.1 in
     let t4 = passed (not (leb (offset + size) length)) 24 0 (omega arith) t3.1 in (
-      room-left room t2.0,
+      room_left room t2.0,
       size_most size (not-false (is_size size) t3.0),
       leb-true (offset + size) length (not-false (leb (offset + size) length) t4.0),
     )
 
-pub scatter-passed : (order length offset size value : ℕ) → scatter_fault order length offset size value ≡ 0
+pub scatter_passed : (order length offset size value : ℕ) → scatter_fault order length offset size value ≡ 0
     → (size ≤ 8) × (offset + size ≤ length)
 unfolding scatter_fault
-scatter-passed order length offset size value e =
+scatter_passed order length offset size value e =
     let t1 = passed (not (leb order 1)) 10 _ (omega arith) e in
     let t2 = passed (not (is_size size)) 22 _ (omega arith) t1.1 in
     let t3 = passed (not (leb (offset + size) length && ltb value (256 ^ size))) 24 0 (omega arith) t2.1 in
     let v = both (leb (offset + size) length) (ltb value (256 ^ size)) (not-false (leb (offset + size) length && ltb value (256 ^ size)) t3.0) in
     (size_most size (not-false (is_size size) t2.0), leb-true (offset + size) length v.0)
 
-pub lengths-passed : (settings report : ℕ) → length_fault settings report ≡ 0 → (settings ≡ settings_length) × (report_numbers ≤ report)
+pub lengths_passed : (settings report : ℕ) → length_fault settings report ≡ 0 → (settings ≡ settings_length) × (report_numbers ≤ report)
 unfolding length_fault
-lengths-passed settings report e =
+lengths_passed settings report e =
     let t = passed (not (eqb settings settings_length && leb report_numbers report)) 11 0 (omega arith) e in
     let v = both (eqb settings settings_length) (leb report_numbers report) (not-false (eqb settings settings_length && leb report_numbers report) t.0) in
     (eqb-true settings settings_length v.0, leb-true report_numbers report v.1)
@@ -110,10 +110,10 @@ long_enough least words e =
     let t = passed (not (leb least words)) 11 0 (omega arith) e in
     leb-true least words (not-false (leb least words) t.0)
 
-pub report-passed : (report : ℕ) → report_fault report ≡ 0 → report_numbers ≤ report
+pub report_passed : (report : ℕ) → report_fault report ≡ 0 → report_numbers ≤ report
 unfolding report_fault
-report-passed report e = long_enough report_numbers report e
+report_passed report e = long_enough report_numbers report e
 
-pub place-passed : (place : ℕ) → place_fault place ≡ 0 → place_length ≤ place
+pub place_passed : (place : ℕ) → place_fault place ≡ 0 → place_length ≤ place
 unfolding place_fault
-place-passed place e = long_enough place_length place e
+place_passed place e = long_enough place_length place e

@@ -45,10 +45,10 @@ keeps_omitted d o e =
     let z : d ≡ 0 = omega (arith, s, t) in
     rw (eq-eqb d 0 z, eq-eqb o 0 (ap (λ (v : Varnode). v.offset) e))
 
-keeps-beyond : (lengths : Lengths) (v : Varnode) → (2 ≤ v.space → v.offset + v.size ≤ length_of lengths v.space)
+keeps_beyond : (lengths : Lengths) (v : Varnode) → (2 ≤ v.space → v.offset + v.size ≤ length_of lengths v.space)
     → (v.space ≡ 1 → v.offset < 256 ^ v.size) → beyond lengths v ≡ false
 unfolding beyond
-keeps-beyond lengths v within constant = by (eqb v.space 0) refl (eqb v.space 1) refl
+keeps_beyond lengths v within constant = by (eqb v.space 0) refl (eqb v.space 1) refl
   where
     by : (t : Bool) → eqb v.space 0 ≡ t → (s : Bool) → eqb v.space 1 ≡ s
         → cond t false (cond s (not (ltb v.offset (256 ^ v.size))) (not (leb (v.offset + v.size) (length_of lengths v.space)))) ≡ false
@@ -62,11 +62,11 @@ keeps-beyond lengths v within constant = by (eqb v.space 0) refl (eqb v.space 1)
 inside_list : (n : ℕ) (z : ℤ) → (t : ℕ) × (t ≤ n) × (z ≡ pos t) → lt_z z (pos 0) || lt_z (pos n) z ≡ false
 inside_list n z (t, h, e) = rw e (rw (le-ltb t 0 (omega arith), le-ltb n t h))
 
-keeps-target : (n i opcode : ℕ) (v : Varnode)
+keeps_target : (n i opcode : ℕ) (v : Varnode)
     → (branches opcode ≡ true → v.space ≡ 1 → (t : ℕ) × (t ≤ n) × (relative_target i v.offset ≡ pos t))
     → breaks_target n i opcode v ≡ false
 unfolding breaks_target target_outside
-keeps-target n i opcode v h = by (branches opcode) refl (eqb v.space 1) refl
+keeps_target n i opcode v h = by (branches opcode) refl (eqb v.space 1) refl
   where
     by : (b : Bool) → branches opcode ≡ b → (s : Bool) → eqb v.space 1 ≡ s
         → b && s && (lt_z (relative_target i v.offset) (pos 0) || lt_z (pos n) (relative_target i v.offset)) ≡ false
@@ -96,7 +96,7 @@ module _ (a : ℕ) (lengths : Lengths) (list : List ℕ) (i : ℕ) (w : WellForm
       by true e = refl
       by false e =
           let exempt : place ≡ 1 → branches (opcode_at list i) ≡ false = λ q. rw (eq-eqb place 1 q) at e in
-          keeps-beyond lengths (varnode_at list i place) (w.within place (omega arith) exempt) (w.constant place (omega arith) exempt)
+          keeps_beyond lengths (varnode_at list i place) (w.within place (omega arith) exempt) (w.constant place (omega arith) exempt)
 
   keeps_all : lowest_rule a lengths list i ≡ 0
   unfolding lowest_rule size_or_target any_place
@@ -107,7 +107,7 @@ module _ (a : ℕ) (lengths : Lengths) (list : List ℕ) (i : ℕ) (w : WellForm
         none_below (λ place. breaks_place (opcode_at list i) place (varnode_at list i place)) (most_inputs + 1) (λ place h. w.placed place (omega arith)),
         none_below (λ place. breaks_range lengths (opcode_at list i) place (varnode_at list i place)) (most_inputs + 1) keeps_range,
         w.sized,
-        keeps-target (operation_count list) i (opcode_at list i) (varnode_at list i 1) w.target,
+        keeps_target (operation_count list) i (opcode_at list i) (varnode_at list i 1) w.target,
       )
 
 -- ---- the lowest rule that is broken
@@ -238,8 +238,8 @@ module _ (settings : Settings) (lengths : Lengths) (list : List ℕ) (s : settin
   unfolding refusal_report
   answered k i e = ap (λ (r : Report). record { rule = r.ending; index = r.index }) (sym in_range ∙ e)
 
-pub exact-verdict : ExactVerdict
-exact-verdict =
+pub exact_verdict : ExactVerdict
+exact_verdict =
     record {
       zero = verdict-zero;
       only_zero = λ settings lengths list s l w.

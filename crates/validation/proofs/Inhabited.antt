@@ -21,16 +21,16 @@ use Rattle.validation.specs.Inhabited.{output_descriptor, part_of_head, example,
 abbrev ending : (opcode : ℕ) → ℕ
 ending opcode = (verdict (record { order = 0; address_size = 1; wordsizes = all_one }) (record { unique = 0; register = 2; ram = 0 }) (example opcode)).ending
 
-all-zero : tabulate last_opcode (λ k. ending (suc k)) ≡ tabulate last_opcode (λ k. 0)
+all_zero : tabulate last_opcode (λ k. ending (suc k)) ≡ tabulate last_opcode (λ k. 0)
 unfolding xor tabulate digit is_size signed opcodes row_of outputs inputs sizes_of has_place member agree sizes_agree operation_count word_at head_byte spare_at
     opcode_at descriptor_at offset_at described_by varnode_at breaks_head describes_varnode breaks_shape breaks_shape_at accesses branches jumps names_space
     is_destination breaks_place length_of beyond breaks_range breaks_size relative_target target_outside breaks_target settings_in_range wordsizes_in_range lengths_in_range any_below
     any_place size_or_target lowest_rule first_malformed refusal_report malformed verdict output_descriptor part_of_head example
-all-zero = refl
+all_zero = refl
 
 pub inhabited : Inhabited
 inhabited opcode low high =
     let h : opcode - 1 < last_opcode = omega arith in
     let e : opcode ≡ suc (opcode - 1) = omega arith in
-    ap ending e ∙ sym (tabulate_at last_opcode (λ k. ending (suc k)) (opcode - 1) h) ∙ ap (λ (l : List ℕ). get_or l (opcode - 1) 0) all-zero
+    ap ending e ∙ sym (tabulate_at last_opcode (λ k. ending (suc k)) (opcode - 1) h) ∙ ap (λ (l : List ℕ). get_or l (opcode - 1) 0) all_zero
     ∙ tabulate_at last_opcode (λ k. 0) (opcode - 1) h

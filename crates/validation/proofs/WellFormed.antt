@@ -79,16 +79,16 @@ module _ (list : List ℕ) (i place : ℕ) (e : breaks_shape_at list i place ≡
   unfolding varnode_at described_by
   is_present h = described (descriptor_at list i place) (rw h at shaped)
 
-  is-absent : has_place (opcode_at list i) place ≡ false → varnode_at list i place ≡ absent
+  is_absent : has_place (opcode_at list i) place ≡ false → varnode_at list i place ≡ absent
   unfolding varnode_at described_by absent
-  is-absent h =
+  is_absent h =
       let t = both (eqb (descriptor_at list i place) 0) (eqb (offset_at list i place) 0) (rw h at shaped) in
       rw (eqb-true (descriptor_at list i place) 0 t.0, eqb-true (offset_at list i place) 0 t.1)
 
-is-target : (n i opcode : ℕ) (v : Varnode) → breaks_target n i opcode v ≡ false → branches opcode ≡ true → v.space ≡ 1
+is_target : (n i opcode : ℕ) (v : Varnode) → breaks_target n i opcode v ≡ false → branches opcode ≡ true → v.space ≡ 1
     → (t : ℕ) × (t ≤ n) × (relative_target i v.offset ≡ pos t)
 unfolding breaks_target target_outside
-is-target n i opcode v e b h = within_list n (relative_target i v.offset) (rw (b, eq-eqb v.space 1 h) at e)
+is_target n i opcode v e b h = within_list n (relative_target i v.offset) (rw (b, eq-eqb v.space 1 h) at e)
 
 -- ---- the law
 
@@ -109,12 +109,12 @@ no_rule_broken a lengths list i e =
       opcode = (leb-true 1 (opcode_at list i) range.0, leb-true (opcode_at list i) last_opcode range.1);
       spare = eqb-true (spare_at list i) 0 (not-false _ head.1);
       present = λ place h. is_present list i place (none_at (breaks_shape_at list i) (most_inputs + 1) place (omega arith) t2.0);
-      omitted = λ place h. is-absent list i place (none_at (breaks_shape_at list i) (most_inputs + 1) place (omega arith) t2.0);
+      omitted = λ place h. is_absent list i place (none_at (breaks_shape_at list i) (most_inputs + 1) place (omega arith) t2.0);
       placed = λ place h. none_at (λ p. breaks_place (opcode_at list i) p (varnode_at list i p)) (most_inputs + 1) place (omega arith) t3.0;
       within = λ place h x. in_space_lem lengths (opcode_at list i) place (varnode_at list i place) x (ranged place (omega arith));
       constant = λ place h x. in_constant lengths (opcode_at list i) place (varnode_at list i place) x (ranged place (omega arith));
       sized = t5.0;
-      target = is-target (operation_count list) i (opcode_at list i) (varnode_at list i 1) t6.0;
+      target = is_target (operation_count list) i (opcode_at list i) (varnode_at list i 1) t6.0;
     }
 
 pub verdict-zero : VerdictZero

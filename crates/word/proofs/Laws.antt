@@ -116,9 +116,9 @@ bytes_bytes big n v i = by (ltb i n) refl
     by false e = rw (tabulate_past n (λ k. digit 256 v (significance big n k)) i (ltb-false i n e)) (lit< tt)
 
 -- reading what was written gives the number, but for a multiple of 256^n
-pub read-written : (big : Bool) (n v : ℕ) → value_of big (bytes_of big n v) ≡ v % 256 ^ n
+pub read_written : (big : Bool) (n v : ℕ) → value_of big (bytes_of big n v) ≡ v % 256 ^ n
 unfolding value_of
-read-written big n v =
+read_written big n v =
     rw (bytes-length big n v)
     (sum_cong n (λ i. get_or (bytes_of big n v) i 0 * 256 ^ significance big n i) (λ i. digit 256 v (significance big n i) * 256 ^ significance big n i)
     (λ i h. rw (bytes_at_lem big n v i h))
@@ -127,8 +127,8 @@ read-written big n v =
     (λ k h. rw (significance_twice big n k h))
     ∙ digits_sum 256 (lit< tt) n v)
 
-pub read-written_fits : (big : Bool) (n v : ℕ) → v < 256 ^ n → value_of big (bytes_of big n v) ≡ v
-read-written_fits big n v h = read-written big n v ∙ mod-eq_of_lt h
+pub read_written_fits : (big : Bool) (n v : ℕ) → v < 256 ^ n → value_of big (bytes_of big n v) ≡ v
+read_written_fits big n v h = read_written big n v ∙ mod-eq_of_lt h
 
 -- writing what was read gives the bytes back
 pub written_read : (big : Bool) (bs : List ℕ) → Bytes bs → bytes_of big (length bs) (value_of big bs) ≡ bs
@@ -151,9 +151,9 @@ below_eight n h d = mod-eq_of_lt (omega arith)
 pub byte_fits : (b k : ℕ) → b < 256 → k < 8 → b * 256 ^ k < 2 ^ 64
 byte_fits b k hb hk = lt_of_lt_of_le (mul-lt-mul_of_pos_right hb (size_pos k)) (rw (← (pow-succ' 256 k)) (size_most (suc k) hk))
 
-value-part : (big : Bool) (l : List ℕ) (at n : ℕ) → value_of big (part l at n) ≡ sum n (λ i. get_or l (at + i) 0 * 256 ^ significance big n i)
+value_part : (big : Bool) (l : List ℕ) (at n : ℕ) → value_of big (part l at n) ≡ sum n (λ i. get_or l (at + i) 0 * 256 ^ significance big n i)
 unfolding value_of
-value-part big l at n =
+value_part big l at n =
     rw (part_length l at n)
     (sum_cong n (λ i. get_or (part l at n) i 0 * 256 ^ significance big n i) (λ i. get_or l (at + i) 0 * 256 ^ significance big n i)
     (λ i h. rw (part_at l at n i h)))
@@ -169,19 +169,19 @@ module _ (big : Bool) (l : List ℕ) (at n : ℕ) where
 
   pub gathered_all : gathered big l at n n ≡ value_of big (part l at n)
   unfolding gathered
-  gathered_all = sym (value-part big l at n)
+  gathered_all = sym (value_part big l at n)
 
 -- the bytes passed have no bit in common with the next byte at its weight: in little order they lie below it, in big order above
-pub gathered-or : (big : Bool) (l : List ℕ) (at n : ℕ) → Bytes l → (i : ℕ) → i < n
+pub gathered_or : (big : Bool) (l : List ℕ) (at n : ℕ) → Bytes l → (i : ℕ) → i < n
     → bit_or (gathered big l at n i) (get_or l (at + i) 0 * 256 ^ significance big n i) ≡ gathered big l at n (suc i)
 unfolding gathered significance sum
-gathered-or false l at n b i h =
+gathered_or false l at n b i h =
     let below : sum i (λ j. get_or l (at + j) 0 * 256 ^ j) < 2 ^ (8 * i) =
     rw (← (pow_bits i)) (digits_lt 256 (lit< tt) i (λ j. get_or l (at + j) 0) (λ j k. b (at + j))) in
     rw (pow_bits i)
     (or_shifted_r (get_or l (at + i) 0) (8 * i) (sum i (λ j. get_or l (at + j) 0 * 256 ^ j)) below
     ∙ add_comm (get_or l (at + i) 0 * 2 ^ (8 * i)) (sum i (λ j. get_or l (at + j) 0 * 256 ^ j)))
-gathered-or true l at n b i h =
+gathered_or true l at n b i h =
     let last = n - 1 - i in
     let passed : ℕ = sum i (λ j. get_or l (at + j) 0 * 256 ^ (i - 1 - j)) in
     let term : (j : ℕ) → j < i → get_or l (at + j) 0 * 256 ^ (n - 1 - j) ≡ get_or l (at + j) 0 * 256 ^ (i - 1 - j) * 256 ^ suc last = λ j k.

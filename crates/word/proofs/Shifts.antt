@@ -12,13 +12,13 @@ use lib.Pow.{shr-shr, high, low, ones_split}
 use Rattle.word.specs.Sum.{digit}
 use Rattle.word.specs.Word.{significance, value_of, bytes_of}
 use Rattle.word.proofs.Powers.{pow_bits, size_pos, size_mono, size_less}
-use Rattle.word.proofs.Laws.{bytes-length, bytes_at_lem, bytes_bytes, read-written, written_read}
+use Rattle.word.proofs.Laws.{bytes-length, bytes_at_lem, bytes_bytes, read_written, written_read}
 
 -- n bytes tell a number but for a multiple of 256^n
-pub bytes-mod : (big : Bool) (n x : ℕ) → bytes_of big n x ≡ bytes_of big n (x % 256 ^ n)
-bytes-mod big n x =
+pub bytes_mod : (big : Bool) (n x : ℕ) → bytes_of big n x ≡ bytes_of big n (x % 256 ^ n)
+bytes_mod big n x =
     let w = written_read big (bytes_of big n x) (bytes_bytes big n x) in
-    sym w ∙ ap (λ (k : ℕ). bytes_of big k (value_of big (bytes_of big n x))) (bytes-length big n x) ∙ ap (bytes_of big n) (read-written big n x)
+    sym w ∙ ap (λ (k : ℕ). bytes_of big k (value_of big (bytes_of big n x))) (bytes-length big n x) ∙ ap (bytes_of big n) (read_written big n x)
 
 -- a number that fits in s bytes has no more
 pub digit_past : (s x j : ℕ) → x < 256 ^ s → s ≤ j → digit 256 x j ≡ 0
@@ -36,7 +36,7 @@ digit-div x k i =
 pub digit-mod : (x n i : ℕ) → i < n → digit 256 (x % 256 ^ n) i ≡ digit 256 x i
 unfolding significance
 digit-mod x n i h =
-    sym (bytes_at_lem false n (x % 256 ^ n) i h) ∙ ap (λ (l : List ℕ). get_or l i 0) (sym (bytes-mod false n x)) ∙ bytes_at_lem false n x i h
+    sym (bytes_at_lem false n (x % 256 ^ n) i h) ∙ ap (λ (l : List ℕ). get_or l i 0) (sym (bytes_mod false n x)) ∙ bytes_at_lem false n x i h
 
 -- a above the t bytes of b
 module _ (t a b : ℕ) (hb : b < 256 ^ t) where

@@ -37,8 +37,8 @@ module _ {f : ℕ → ℕ} {n at : ℕ} {before now : List ℕ} {i : ℕ} (h : S
   pub storing_all : n ≤ i → now ≡ sets before at (tabulate n f)
   storing_all k = let e : i ≡ n = omega (arith, h.turns) in rw e at h.stored
 
-  pub storing-length : length now ≡ length before
-  storing-length = rw h.stored (length-sets before at (tabulate i f))
+  pub storing_length : length now ≡ length before
+  storing_length = rw h.stored (length-sets before at (tabulate i f))
 
 -- a list that is stored over from its start to its end
 pub filled : (before vs : List ℕ) → length vs ≡ length before → sets before 0 vs ≡ vs

@@ -1,3 +1,4 @@
+-- `arithmetic::integer_value` meets its contract. Each arm is its row of the table of results.
 use Prim.Native.Nat.{suc, ◌-◌, ◌^◌, ◌<◌}
 use mathlib.Core.Path.{refl, sym, ap, ◌∙◌}
 use native.Mathlib.Omega.{arith}
@@ -13,7 +14,6 @@ use Rattle.arithmetic.specs.Opcodes.{first_integer, last_integer, opcodes, row_o
 use Rattle.arithmetic.specs.Operands.{divides, agree, sizes_agree}
 use Rattle.arithmetic.proofs.integer_value.Goals as goal
 
--- `arithmetic::integer_value` meets its contract. Each arm is its row of the table of results.
 pub piece-requires : goal.piece-requires
 unfolding sizes_agree agree sizes_of row_of opcodes
 piece-requires c = halves_fit c.requires (agreed c.requires 10 c.in-10.is)

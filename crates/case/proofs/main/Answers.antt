@@ -1,9 +1,9 @@
+-- `case::main` meets its contract.
 use Rattle.std.proofs.Common.{sym}
 use lib.Seq.{length-take-le}
 use Rattle.case.proofs.Reading.{put_fits}
 use Rattle.case.proofs.main.Goals as goal
 
--- `case::main` meets its contract.
 pub slice_bounds-out-end : goal.slice_bounds-out-end
 slice_bounds-out-end c =
     let got = c.read_all-got.ensures.read in

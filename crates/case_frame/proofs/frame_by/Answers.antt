@@ -1,8 +1,8 @@
+-- `case_frame::frame_by` meets its contract.
 use borrow.Author.Tests.{eq-eqb, ne_eqb}
 use Rattle.case_frame.specs.Frames.{frame_by}
 use Rattle.case_frame.proofs.frame_by.Goals as goal
 
--- `case_frame::frame_by` meets its contract.
 pub returns-then-kind-eq1 : goal.returns-then-kind-eq1
 unfolding frame_by
 returns-then-kind-eq1 c = rw (eq-eqb _ _ c.if-kind-eq1.true, c.opening_of.ensures)

@@ -1,3 +1,4 @@
+-- `case_frame::opening_of` meets its contract.
 use borrow.Author.Tests.{eq-eqb, ne_eqb}
 use native.Mathlib.Omega.{arith}
 use Rattle.case_frame.specs.Frames.{budget_column, opening_of}
@@ -5,7 +6,6 @@ use Rattle.case_hexadecimal.specs.Digits.{number_digits}
 use Rattle.case_hexadecimal.proofs.Laws.{number_fits}
 use Rattle.case_frame.proofs.opening_of.Goals as goal
 
--- `case_frame::opening_of` meets its contract.
 pub returns-then-s-ne-OPENING_LENGTH : goal.returns-then-s-ne-OPENING_LENGTH
 unfolding opening_of
 returns-then-s-ne-OPENING_LENGTH c = rw (ne_eqb _ _ c.if-s-ne-OPENING_LENGTH.true)

@@ -1,3 +1,4 @@
+-- `case_frame::store_words` meets its contract. The loop's invariant: the words passed are stored, and nothing else (`Storing`).
 use Prim.Native.Nat.{◌+◌, ◌*◌, ◌-◌}
 use Rattle.word.proofs.Stores.{Storing}
 use Rattle.operation.specs.Layout.{words_per_operation}
@@ -5,7 +6,6 @@ use Rattle.case_hexadecimal.specs.Digits.{word_digits, number_at}
 use Rattle.case_frame.specs.Frames.{words_column}
 use Rattle.case_frame.proofs.store_words.Given as goal
 
--- `case_frame::store_words` meets its contract. The loop's invariant: the words passed are stored, and nothing else (`Storing`).
 abbrev pub invariant-loop-i : goal.invariant-loop-i
 invariant-loop-i l = Storing (λ k. number_at l.s (words_column + word_digits * k) word_digits) words_per_operation l.place l.initial.words l.words l.i
 

@@ -1,10 +1,10 @@
+-- `case_hexadecimal::all_digits` meets its contract. The loop's invariant: the characters passed are digits.
 use lib.ListN.{length, drop}
 use mathlib.Core.Path.{◌≡◌}
 use Prim.Native.Nat.{◌≤◌, ◌-◌}
 use Rattle.case_hexadecimal.specs.Digits.{all_digits}
 use Rattle.case_hexadecimal.proofs.all_digits.Given as goal
 
--- `case_hexadecimal::all_digits` meets its contract. The loop's invariant: the characters passed are digits.
 abbrev pub invariant-loop-i : goal.invariant-loop-i
 invariant-loop-i l = (l.i ≤ length l.s) × (all_digits l.s ≡ all_digits (drop l.i l.s))
 

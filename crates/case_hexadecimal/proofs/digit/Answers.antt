@@ -1,8 +1,8 @@
+-- `case_hexadecimal::digit` meets its contract.
 use borrow.Author.Tests.{lt-ltb, le-ltb}
 use Rattle.case_hexadecimal.specs.Digits.{digit_of}
 use Rattle.case_hexadecimal.proofs.digit.Goals as goal
 
--- `case_hexadecimal::digit` meets its contract.
 pub returns-then-c-lt48 : goal.returns-then-c-lt48
 unfolding digit_of
 returns-then-c-lt48 c = rw (lt-ltb _ _ c.if-c-lt48.true)

@@ -1,9 +1,9 @@
+-- `case_hexadecimal::number` meets its contract. The loop's invariant: the number of the digits passed.
 use mathlib.Core.Path.{◌≡◌}
 use Prim.Native.Nat.{◌≤◌, ◌-◌}
 use Rattle.case_hexadecimal.specs.Digits.{number_at}
 use Rattle.case_hexadecimal.proofs.number.Given as goal
 
--- `case_hexadecimal::number` meets its contract. The loop's invariant: the number of the digits passed.
 abbrev pub invariant-loop-i : goal.invariant-loop-i
 invariant-loop-i l = (l.i ≤ l.k) × (l.n ≡ number_at l.s l.at l.i)
 

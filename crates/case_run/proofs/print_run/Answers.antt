@@ -1,11 +1,11 @@
+-- `case_run::print_run` meets its contract.
 use Rattle.case_reader.proofs.Storage.{kept_fits}
-use Rattle.case_run.proofs.Running.{as-labelled, logged_in, printed_as}
+use Rattle.case_run.proofs.Running.{as_labelled, logged_in, printed_as}
 use Rattle.case_run.proofs.print_run.Goals as goal
 
--- `case_run::print_run` meets its contract.
 pub put_outcome-requires : goal.put_outcome-requires
 put_outcome-requires c =
-    let l = logged_in _ _ _ _ _ (as-labelled _ _ _ _ _ c.requires.fits c.labelled_run-report.ensures) in
+    let l = logged_in _ _ _ _ _ (as_labelled _ _ _ _ _ c.requires.fits c.labelled_run-report.ensures) in
     let k = c.labelled_run-report.auto in
     record {
       logged_in_bounds = l.0;
@@ -17,4 +17,4 @@ put_outcome-requires c =
 
 pub returns : goal.returns
 returns c =
-    printed_as (as-labelled _ _ _ _ _ c.requires.fits c.labelled_run-report.ensures) c.put_outcome.ensures
+    printed_as (as_labelled _ _ _ _ _ c.requires.fits c.labelled_run-report.ensures) c.put_outcome.ensures

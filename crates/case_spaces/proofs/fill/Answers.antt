@@ -1,9 +1,9 @@
+-- `case_spaces::fill` meets its contract.
 use Rattle.machine.specs.Memory.{lengths_of}
 use Rattle.case_reader.specs.Buffers.{memory_in}
 use borrow.Author.Rules.{rules}
 use Rattle.case_spaces.proofs.fill.Goals as goal
 
--- `case_spaces::fill` meets its contract.
 pub copy-requires : goal.copy-requires
 unfolding lengths_of
 copy-requires c = search rules

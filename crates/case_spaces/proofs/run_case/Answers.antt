@@ -1,7 +1,7 @@
+-- `case_spaces::run_case` meets its contract.
 use Rattle.case_spaces.proofs.Spaces.{front_lengths}
 use Rattle.case_spaces.proofs.run_case.Goals as goal
 
--- `case_spaces::run_case` meets its contract.
 pub run_in-requires-clause-ram_value : goal.run_in-requires-clause-ram_value
 run_in-requires-clause-ram_value c =
     front_lengths _ c.requires.sound.stage_fits.lengths _ _ _ c.zeros-unique.ensures c.zeros-register.ensures c.zeros-ram.ensures

@@ -1,9 +1,9 @@
+-- `case_spaces::run_in` meets its contract.
 use Rattle.case_spaces.proofs.Spaces.{fits_as, case-run}
 use Rattle.case_reader.proofs.Storage.{kept_fits}
 use Rattle.case_run.proofs.Running.{printed_as}
 use Rattle.case_spaces.proofs.run_in.Goals as goal
 
--- `case_spaces::run_in` meets its contract.
 pub print_run-requires-clause-fits : goal.print_run-requires-clause-fits
 print_run-requires-clause-fits c =
     let fits = fits_as _ _ c.requires.ram_value c.requires.sound.stage_fits.lengths in

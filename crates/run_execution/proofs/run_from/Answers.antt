@@ -3,7 +3,6 @@ use Rattle.run_memory.proofs.Spaces.{of_bytes}
 use Rattle.run_execution.proofs.Running.{begun, at_end, at_budget, at_stop, at_full, may_log, may_write, at_exit, at_next}
 use Rattle.run_execution.proofs.run_from.Goals as goal
 
--- ---- the needs
 pub loop-i-init : goal.loop-i-init
 loop-i-init c = (
   c.operation_count-count.ensures,

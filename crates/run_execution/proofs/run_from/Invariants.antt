@@ -1,3 +1,4 @@
+-- `run_execution::run_from` meets its contract.
 use Prim.Native.Nat.{◌-◌}
 use mathlib.Core.Path.{◌≡◌}
 use Rattle.operation.specs.Layout.{operation_count}
@@ -6,12 +7,12 @@ use Rattle.machine.specs.Memory.{spaces}
 use Rattle.run_execution.proofs.Running.{Going}
 use Rattle.run_execution.proofs.run_from.Given as goal
 
--- `run_execution::run_from` meets its contract.
 -- what is left to do from here is the whole run
 abbrev pub invariant-loop-i : goal.invariant-loop-i
 invariant-loop-i l =
     (l.count ≡ operation_count l.list)
-    × Going (program_of l.settings l.list) l.budget l.start l.from l.initial.log (spaces l.initial.unique l.initial.register l.initial.ram) l.i l.executed l.k l.log (spaces l.unique l.register l.ram)
+    × Going (program_of l.settings l.list) l.budget l.start l.from l.initial.log
+    (spaces l.initial.unique l.initial.register l.initial.ram) l.i l.executed l.k l.log (spaces l.unique l.register l.ram)
 
 abbrev pub decreases-loop-i : goal.decreases-loop-i
 decreases-loop-i l = l.budget - l.executed

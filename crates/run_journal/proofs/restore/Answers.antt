@@ -1,3 +1,4 @@
+-- `run_journal::restore` meets its contract.
 use mathlib.Core.Path.{sym}
 use lib.Dec.{lit≤}
 use Rattle.machine.specs.Memory.{space_of, with_space}
@@ -5,7 +6,6 @@ use Rattle.run_memory.proofs.Spaces.{placed_in, written_in, written_elsewhere}
 use Rattle.run_journal.specs.Journal.{restored}
 use Rattle.run_journal.proofs.restore.Goals as goal
 
--- `run_journal::restore` meets its contract.
 pub scatter-requires : goal.scatter-requires
 unfolding space_of
 scatter-requires c =

@@ -1,3 +1,4 @@
+-- `run_journal::save` meets its contract.
 use mathlib.Core.Path.{ap, ◌∙◌}
 use lib.Seq.{sets}
 use Rattle.run_journal.proofs.Targets.{target_placed}
@@ -5,7 +6,6 @@ use Rattle.run_journal.proofs.Undoing.{placed_with, entry_read}
 use Rattle.machine.specs.Program.{program_of}
 use Rattle.run_journal.proofs.save.Goals as goal
 
--- `run_journal::save` meets its contract.
 pub value_at-bytes-requires : goal.value_at-bytes-requires
 value_at-bytes-requires c =
     let pre = c.requires in

@@ -1,3 +1,4 @@
+-- `run_journal::stored_at` meets its contract.
 use mathlib.Core.Path.{ap, ◌∙◌}
 use native.Mathlib.Omega.{arith}
 use mathlib.Core.Bool.{not}
@@ -9,7 +10,6 @@ use Rattle.run_plan.proofs.Pointers.{may_multiply}
 use Rattle.run_journal.proofs.Targets.{at_pointer, pointer_placed, stored_outside, stored_inside}
 use Rattle.run_journal.proofs.stored_at.Goals as goal
 
--- `run_journal::stored_at` meets its contract.
 pub varnode_at-input0-requires : goal.varnode_at-input0-requires
 varnode_at-input0-requires c =
     let pre = c.requires in

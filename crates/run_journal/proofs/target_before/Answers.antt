@@ -1,3 +1,4 @@
+-- `run_journal::target_before` meets its contract.
 use native.Mathlib.Omega.{arith}
 use mathlib.Core.Path.{sym, ◌∙◌}
 use borrow.Author.Tests.{eq-eqb, ne_eqb}
@@ -5,7 +6,6 @@ use Rattle.run_plan.proofs.Places.{in_words}
 use Rattle.run_journal.proofs.Targets.{not_the_end, before_end, before-store, before_other}
 use Rattle.run_journal.proofs.target_before.Goals as goal
 
--- `run_journal::target_before` meets its contract.
 pub returns-then-i-operation_count : goal.returns-then-i-operation_count
 returns-then-i-operation_count c = c.absent.ensures ∙ before_end _ _ _ _ (c.if-i-operation_count.true ∙ c.operation_count.ensures)
 

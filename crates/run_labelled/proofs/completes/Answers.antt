@@ -1,8 +1,8 @@
+-- `run_labelled::completes` meets its contract.
 use mathlib.Core.Path.{refl, ◌∙◌}
 use Rattle.run_labelled.specs.Turns.{completes}
 use Rattle.run_labelled.proofs.completes.Goals as goal
 
--- `run_labelled::completes` meets its contract.
 pub returns : goal.returns
 unfolding completes
 returns c =

@@ -1,10 +1,9 @@
 use Rattle.machine.specs.Program.{big_endian}
-use Rattle.machine.proofs.MovedCounts.{moved-spaces_none}
+use Rattle.machine.proofs.MovedCounts.{moved_spaces_none}
 use Rattle.run_plan.proofs.Places.{in_words}
 use Rattle.run_labelled.proofs.Marking.{marked, unmarked}
 use Rattle.run_labelled.proofs.mark_after.Goals as goal
 
--- ---- the needs
 pub logged_offset-offset-requires : goal.logged_offset-offset-requires
 logged_offset-offset-requires c =
     let h = (c.requires c.if-completed.true).0 in
@@ -27,5 +26,5 @@ pub returns-else-target-ne0 : goal.returns-else-target-ne0
 returns-else-target-ne0 c =
     let h = (c.requires c.if-completed.true).0 in (
       rw c.if-completed.true (unmarked _ _ _ c.logged_offset-offset.ensures _ c.target_at-target.ensures _ _ c.if-target-ne0.false h.placed),
-      moved-spaces_none _ _,
+      moved_spaces_none _ _,
     )

@@ -1,8 +1,8 @@
+-- `run_labelled::turn` meets its contract.
 use mathlib.Core.Path.{refl, sym, ◌∙◌}
 use Rattle.run_labelled.specs.Turns.{turn_of}
 use Rattle.run_labelled.proofs.turn.Goals as goal
 
--- `run_labelled::turn` meets its contract.
 pub returns-then-both : goal.returns-then-both
 unfolding turn_of
 returns-then-both c =

@@ -1,8 +1,8 @@
+-- `run_plan::branch_at` meets its contract.
 use Rattle.machine.specs.Effect.{operation_at}
 use Rattle.run_plan.proofs.Planning.{code_skips, code_leaves, code_follows}
 use Rattle.run_plan.proofs.branch_at.Goals as goal
 
--- `run_plan::branch_at` meets its contract.
 pub returns-then-both : goal.returns-then-both
 unfolding operation_at
 returns-then-both c =

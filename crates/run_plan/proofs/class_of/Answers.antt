@@ -1,10 +1,10 @@
+-- `run_plan::class_of` meets its contract.
 use Rattle.std.proofs.Common.{sym, ◌∙◌}
-use Rattle.run_plan.proofs.Opcodes.{late_no-access, late_no_branch, access_no_branch}
+use Rattle.run_plan.proofs.Opcodes.{late_no_access, late_no_branch, access_no_branch}
 use Rattle.run_plan.proofs.class_of.Goals as goal
 
--- `run_plan::class_of` meets its contract.
 pub returns-then-opcode-ge-FIRST_INTEGER : goal.returns-then-opcode-ge-FIRST_INTEGER
-returns-then-opcode-ge-FIRST_INTEGER c = (sym (late_no-access _ c.if-opcode-ge-FIRST_INTEGER.true), sym (late_no_branch _ c.if-opcode-ge-FIRST_INTEGER.true))
+returns-then-opcode-ge-FIRST_INTEGER c = (sym (late_no_access _ c.if-opcode-ge-FIRST_INTEGER.true), sym (late_no_branch _ c.if-opcode-ge-FIRST_INTEGER.true))
 
 pub returns-then-accesses : goal.returns-then-accesses
 returns-then-accesses c =

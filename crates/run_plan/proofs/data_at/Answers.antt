@@ -1,12 +1,12 @@
+-- `run_plan::data_at` meets its contract.
 use Rattle.machine.specs.Effect.{operation_at}
-use Rattle.run_plan.proofs.Planning.{code-jumps, code_copies, code_by-zero, may_compute, code_computes}
+use Rattle.run_plan.proofs.Planning.{code_jumps, code_copies, code_by_zero, may_compute, code_computes}
 use Rattle.run_plan.proofs.data_at.Goals as goal
 
--- `run_plan::data_at` meets its contract.
 pub returns-then-jumps : goal.returns-then-jumps
 unfolding operation_at
 returns-then-jumps c =
-    code-jumps _ _ _ _ c.opcode_at-opcode.ensures c.requires.2 _ c.jumps.ensures _ _ c.if-jumps.true c.control.ensures
+    code_jumps _ _ _ _ c.opcode_at-opcode.ensures c.requires.2 _ c.jumps.ensures _ _ c.if-jumps.true c.control.ensures
 
 pub returns-then-opcode-lt-FIRST_INTEGER : goal.returns-then-opcode-lt-FIRST_INTEGER
 unfolding operation_at
@@ -17,7 +17,7 @@ returns-then-opcode-lt-FIRST_INTEGER c =
 pub returns-then-both : goal.returns-then-both
 unfolding operation_at
 returns-then-both c =
-    code_by-zero _ _ _ _ c.opcode_at-opcode.ensures c.requires.2 c.if-opcode-lt-FIRST_INTEGER.false
+    code_by_zero _ _ _ _ c.opcode_at-opcode.ensures c.requires.2 c.if-opcode-lt-FIRST_INTEGER.false
     _ _ c.is_division.ensures c.both.ensures _ _ c.if-both.true c.control-then-both.ensures
 
 pub value-x-requires : goal.value-x-requires

@@ -1,3 +1,4 @@
+-- `run_plan::move_at` meets its contract.
 use mathlib.Core.Bool.{not}
 use Rattle.std.proofs.Common.{sym, ap, ◌∙◌}
 use Rattle.operation.specs.declared.layout.Lengths.{Lengths}
@@ -5,11 +6,10 @@ use Rattle.operation.specs.Rules.{length_of}
 use Rattle.machine.specs.Program.{program_of}
 use Rattle.machine.specs.Effect.{operation_at}
 use Rattle.run_plan.specs.Plans.{move_plan}
-use Rattle.run_plan.proofs.Planning.{code_outside, may_read, code-moves}
+use Rattle.run_plan.proofs.Planning.{code_outside, may_read, code_moves}
 use Rattle.run_plan.proofs.Pointers.{may_multiply, product_fits, product_is}
 use Rattle.run_plan.proofs.move_at.Goals as goal
 
--- `run_plan::move_at` meets its contract.
 pub offset_in-offset-requires : goal.offset_in-offset-requires
 unfolding operation_at
 offset_in-offset-requires c =
@@ -45,7 +45,7 @@ returns c =
     let is = product_is _ _ _ c.requires.3 _ _ _ _ _ c.opcode_at-loads.ensures c.varnode_at-output.ensures
     input0 c.varnode_at-input2.ensures c.choose-moved.ensures _ _ _ extent c.offset_in-offset.ensures
     (sym c.within.ensures ∙ c.if-not-within.false) in
-    code-moves _ _ _ _ _ _ _ _ c.opcode_at-loads.ensures c.varnode_at-output.ensures
+    code_moves _ _ _ _ _ _ _ _ c.opcode_at-loads.ensures c.varnode_at-output.ensures
     input0 c.varnode_at-input2.ensures c.choose-moved.ensures c.requires.2 _ extent _ c.within.ensures
     (ap not c.if-not-within.false) _ c.choose-from.ensures program _ _ _
     c.read_moved-x.ensures _ c.choose-to.ensures c.writes.ensures

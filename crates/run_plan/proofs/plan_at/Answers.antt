@@ -1,3 +1,4 @@
+-- `run_plan::plan_at` meets its contract.
 use Rattle.std.proofs.Common.{ap, ◌∙◌, arith, eq-eqb, ne_eqb}
 use Rattle.operation.specs.Rules.{accesses, branches}
 use Rattle.machine.specs.Program.{program_of}
@@ -10,7 +11,6 @@ use Rattle.run_plan.proofs.Opcodes.{of_opcode}
 use Rattle.run_plan.proofs.Planning.{planned-access, planned_branch, planned_data}
 use Rattle.run_plan.proofs.plan_at.Goals as goal
 
--- `run_plan::plan_at` meets its contract.
 pub opcode_at-opcode-requires : goal.opcode_at-opcode-requires
 opcode_at-opcode-requires c =
     let pre = c.requires in

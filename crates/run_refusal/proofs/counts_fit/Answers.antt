@@ -1,8 +1,8 @@
+-- `run_refusal::counts_fit` meets its contract.
 use mathlib.Core.Path.{refl}
 use Rattle.machine.specs.Counts.{counts_fit}
 use Rattle.run_refusal.proofs.counts_fit.Goals as goal
 
--- `run_refusal::counts_fit` meets its contract.
 pub returns : goal.returns
 unfolding counts_fit
 returns c =

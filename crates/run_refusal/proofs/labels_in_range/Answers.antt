@@ -1,8 +1,8 @@
+-- `run_refusal::labels_in_range` meets its contract.
 use mathlib.Core.Path.{refl}
 use Rattle.machine.specs.Calls.{labels_in_range}
 use Rattle.run_refusal.proofs.labels_in_range.Goals as goal
 
--- `run_refusal::labels_in_range` meets its contract.
 pub returns : goal.returns
 unfolding labels_in_range
 returns c =

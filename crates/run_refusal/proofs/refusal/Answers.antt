@@ -1,8 +1,8 @@
+-- `run_refusal::refusal` meets its contract.
 use mathlib.Core.Path.{◌∙◌}
 use Rattle.run_refusal.proofs.Refused.{refused_early, refused_list, refused_start}
 use Rattle.run_refusal.proofs.refusal.Goals as goal
 
--- `run_refusal::refusal` meets its contract.
 pub returns-then-early-ne0 : goal.returns-then-early-ne0
 returns-then-early-ne0 c =
     c.refusal_report.ensures ∙ refused_early _ _ _ _ _ _ _ c.early_ending-early.ensures c.if-early-ne0.true

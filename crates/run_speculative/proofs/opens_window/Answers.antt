@@ -1,9 +1,9 @@
-use Rattle.run_speculative.proofs.Ways.{none-opened, looked}
+-- `run_speculative::opens_window` meets its contract.
+use Rattle.run_speculative.proofs.Ways.{none_opened, looked}
 use Rattle.run_speculative.proofs.opens_window.Goals as goal
 
--- `run_speculative::opens_window` meets its contract.
 pub returns-then-either : goal.returns-then-either
-returns-then-either c = none-opened _ _ _ _ _ c.either.ensures c.if-either.true
+returns-then-either c = none_opened _ _ _ _ _ c.either.ensures c.if-either.true
 
 pub returns : goal.returns
 returns c =

@@ -1,13 +1,13 @@
 use Rattle.std.proofs.Common.{sym, refl, ◌∙◌, arith}
 use Rattle.speculation.proofs.Runs.{speculate_laws}
 use Rattle.run_labelled.proofs.Turning.{within, may_count, counts_on, at_ended, fewer}
-use Rattle.run_speculative.proofs.Turns.{may-speculate, spared_on, speculating_next}
+use Rattle.run_speculative.proofs.Turns.{may_speculate, spared_on, speculating_next}
 use Rattle.run_speculative.proofs.speculate_from.Goals as goal
 
 pub speculate_at-done-requires : goal.speculate_at-done-requires
 speculate_at-done-requires c =
     let inv = c.loop-settings.invariant in
-    let t = may-speculate inv.0 _ c.turn-most.ensures in
+    let t = may_speculate inv.0 _ c.turn-most.ensures in
     (t.0, t.1, t.2, t.3, t.4, t.5, t.6, may_count (speculate_laws _ _) inv.0.turning inv.1 (λ q. c.requires.5) refl)
 
 pub overflow_add-executed : goal.overflow_add-executed

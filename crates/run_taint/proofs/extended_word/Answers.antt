@@ -1,7 +1,7 @@
+-- `run_taint::extended_word` meets its contract.
 use Rattle.run_taint.proofs.LabelWords.{top_small, extended_fits, extended_digits}
 use Rattle.run_taint.proofs.extended_word.Goals as goal
 
--- `run_taint::extended_word` meets its contract.
 pub each_label-requires : goal.each_label-requires
 each_label-requires c = let p = c.requires in top_small _ _ p.0 p.1 p.2
 

@@ -1,3 +1,4 @@
+-- `run_taint::labels_written` meets its contract.
 use native.Mathlib.Omega.{arith}
 use Rattle.arithmetic.specs.Opcodes.{member}
 use Rattle.machine.specs.Effect.{operation_at}
@@ -5,10 +6,9 @@ use Rattle.machine.specs.Conditions.{moving}
 use Rattle.run_plan.proofs.Opcodes.{of_opcode}
 use Rattle.run_memory.proofs.Spaces.{of_bytes}
 use Rattle.run_plan.proofs.Places.{in_words}
-use Rattle.run_taint.proofs.LabelWords.{place_source, word_early, moves_bytes, some_output, place-moved, word_moved, place_input, flag_small, whole_most, word_whole}
+use Rattle.run_taint.proofs.LabelWords.{place_source, word_early, moves_bytes, some_output, place_moved, word_moved, place_input, flag_small, whole_most, word_whole}
 use Rattle.run_taint.proofs.labels_written.Goals as goal
 
--- `run_taint::labels_written` meets its contract.
 pub opcode_at-opcode-requires : goal.opcode_at-opcode-requires
 opcode_at-opcode-requires c =
     let pre = c.requires in
@@ -40,7 +40,7 @@ pub ordered-requires : goal.ordered-requires
 ordered-requires c =
     let move = moves_bytes _ _ _ _ c.requires (rw c.opcode_at-opcode.ensures at c.if-opcode-lt-FIRST_INTEGER.false)
     (of_opcode (λ n. member n moving) c.opcode_at-opcode.ensures c.moves.ensures c.if-moves.true) in
-    rw c.varnode_at-output.ensures (some_output _ _ _ move, (place-moved _ _ _ move 0 (omega arith)).size)
+    rw c.varnode_at-output.ensures (some_output _ _ _ move, (place_moved _ _ _ move 0 (omega arith)).size)
 
 pub returns-then-moves : goal.returns-then-moves
 unfolding operation_at

@@ -1,3 +1,4 @@
+-- `run_taint::leaks_at` meets its contract.
 use native.Mathlib.Omega.{arith}
 use mathlib.Core.Path.{sym, ◌∙◌}
 use Rattle.arithmetic.specs.Operands.{divides}
@@ -6,7 +7,6 @@ use Rattle.run_plan.proofs.Places.{in_words}
 use Rattle.run_taint.proofs.Tainting.{division_no_branch, operands_tell, late_public, place}
 use Rattle.run_taint.proofs.leaks_at.Goals as goal
 
--- `run_taint::leaks_at` meets its contract.
 pub opcode_at-opcode-requires : goal.opcode_at-opcode-requires
 opcode_at-opcode-requires c =
     let pre = c.requires in

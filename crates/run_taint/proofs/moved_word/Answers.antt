@@ -1,10 +1,10 @@
+-- `run_taint::moved_word` meets its contract.
 use native.Mathlib.Omega.{arith}
 use mathlib.Core.Path.{sym, ◌∙◌}
 use Rattle.run_plan.proofs.Places.{in_words}
-use Rattle.run_taint.proofs.LabelWords.{place-moved, some_input0, some_input1, size_extended, piece_fits, moved-piece, moved-subpiece, moved_extended, moved_whole}
+use Rattle.run_taint.proofs.LabelWords.{place_moved, some_input0, some_input1, size_extended, piece_fits, moved-piece, moved-subpiece, moved_extended, moved_whole}
 use Rattle.run_taint.proofs.moved_word.Goals as goal
 
--- `run_taint::moved_word` meets its contract.
 pub opcode_at-opcode-requires : goal.opcode_at-opcode-requires
 opcode_at-opcode-requires c =
     let pre = c.requires in
@@ -29,13 +29,13 @@ varnode_at-input1-requires c =
 pub labels_of-a-requires : goal.labels_of-a-requires
 labels_of-a-requires c =
     let pre = c.requires in
-    rw c.varnode_at-input0.ensures (place-moved _ _ _ pre 1 (omega arith), some_input0 _ _ _ pre)
+    rw c.varnode_at-input0.ensures (place_moved _ _ _ pre 1 (omega arith), some_input0 _ _ _ pre)
 
 -- ---- PIECE
 pub labels_of-requires : goal.labels_of-requires
 labels_of-requires c =
     let pre = c.requires in
-    rw c.varnode_at-input1.ensures (place-moved _ _ _ pre 2 (omega arith), some_input1 _ _ _ pre (sym c.opcode_at-opcode.ensures ∙ c.in-10.is))
+    rw c.varnode_at-input1.ensures (place_moved _ _ _ pre 2 (omega arith), some_input1 _ _ _ pre (sym c.opcode_at-opcode.ensures ∙ c.in-10.is))
 
 pub piece-requires : goal.piece-requires
 piece-requires c =
@@ -46,7 +46,7 @@ piece-requires c =
 -- ---- SUBPIECE
 pub subpiece-requires : goal.subpiece-requires
 subpiece-requires c =
-    rw c.varnode_at-output.ensures (place-moved _ _ _ c.requires 0 (omega arith)).size
+    rw c.varnode_at-output.ensures (place_moved _ _ _ c.requires 0 (omega arith)).size
 
 -- ---- INT_SEXT
 pub extended_word-requires : goal.extended_word-requires

@@ -1,15 +1,15 @@
+-- `run_taint::sink_at` meets its contract.
 use mathlib.Core.Path.{◌≡◌, refl, sym, ◌∙◌}
 use mathlib.Core.Bool.{true, false, ◌||◌}
 use lib.Dec.{eqb}
 use Rattle.operation.specs.Rules.{accesses}
-use Rattle.run_taint.proofs.Tainting.{early_no_division, watched-tested, sink_tells}
+use Rattle.run_taint.proofs.Tainting.{early_no_division, watched_tested, sink_tells}
 use Rattle.run_taint.proofs.sink_at.Goals as goal
 
--- `run_taint::sink_at` meets its contract.
 pub returns-then-either : goal.returns-then-either
 returns-then-either c = let h = (let n = c.opcode_at-opcode.result in
     let h : accesses n || eqb n 5 ≡ true = rw (← c.accesses.ensures) (sym c.either.ensures ∙ c.if-either.true) in
-    sink_tells _ _ (early_no_division _ c.requires.1) _ (c.varnode_at.ensures ∙ rw (← c.opcode_at-opcode.ensures) (sym (watched-tested n _ _ h)))) in record { leak = h.0; place = h.1 }
+    sink_tells _ _ (early_no_division _ c.requires.1) _ (c.varnode_at.ensures ∙ rw (← c.opcode_at-opcode.ensures) (sym (watched_tested n _ _ h)))) in record { leak = h.0; place = h.1 }
 
 pub returns-then-jumps : goal.returns-then-jumps
 returns-then-jumps c = let h = (sink_tells _ _ (early_no_division _ c.requires.1) _

@@ -1,10 +1,10 @@
+-- `run_taint::source_at` meets its contract.
 use mathlib.Core.Path.{◌∙◌}
 use Rattle.machine.specs.Effect.{operation_at}
-use Rattle.run_plan.proofs.Opcodes.{opcode_is, opcode_is-not}
-use Rattle.run_taint.proofs.LabelWords.{source_loaded, source-stored, source_other}
+use Rattle.run_plan.proofs.Opcodes.{opcode_is, opcode_is_not}
+use Rattle.run_taint.proofs.LabelWords.{source_loaded, source_stored, source_other}
 use Rattle.run_taint.proofs.source_at.Goals as goal
 
--- `run_taint::source_at` meets its contract.
 pub returns-then-opcode-eq2 : goal.returns-then-opcode-eq2
 unfolding operation_at
 returns-then-opcode-eq2 c =
@@ -14,10 +14,10 @@ pub returns-then-opcode-eq3 : goal.returns-then-opcode-eq3
 unfolding operation_at
 returns-then-opcode-eq3 c =
     c.varnode_at.ensures
-    ∙ source-stored _ _ (opcode_is-not 2 c.opcode_at-opcode.ensures c.if-opcode-eq2.false) (opcode_is 3 c.opcode_at-opcode.ensures c.if-opcode-eq3.true)
+    ∙ source_stored _ _ (opcode_is_not 2 c.opcode_at-opcode.ensures c.if-opcode-eq2.false) (opcode_is 3 c.opcode_at-opcode.ensures c.if-opcode-eq3.true)
 
 pub returns : goal.returns
 unfolding operation_at
 returns c =
     c.varnode_at-2.ensures
-    ∙ source_other _ _ (opcode_is-not 2 c.opcode_at-opcode.ensures c.if-opcode-eq2.false) (opcode_is-not 3 c.opcode_at-opcode.ensures c.if-opcode-eq3.false)
+    ∙ source_other _ _ (opcode_is_not 2 c.opcode_at-opcode.ensures c.if-opcode-eq2.false) (opcode_is_not 3 c.opcode_at-opcode.ensures c.if-opcode-eq3.false)

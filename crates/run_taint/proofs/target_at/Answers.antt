@@ -1,10 +1,10 @@
+-- `run_taint::target_at` meets its contract.
 use mathlib.Core.Path.{◌∙◌}
 use Rattle.machine.specs.Effect.{operation_at}
-use Rattle.run_plan.proofs.Opcodes.{opcode_is, opcode_is-not}
+use Rattle.run_plan.proofs.Opcodes.{opcode_is, opcode_is_not}
 use Rattle.run_taint.proofs.Tainting.{stores, outputs}
 use Rattle.run_taint.proofs.target_at.Goals as goal
 
--- `run_taint::target_at` meets its contract.
 pub returns-then-opcode_at-eq3 : goal.returns-then-opcode_at-eq3
 unfolding operation_at
 returns-then-opcode_at-eq3 c =
@@ -13,4 +13,4 @@ returns-then-opcode_at-eq3 c =
 pub returns : goal.returns
 unfolding operation_at
 returns c =
-    c.varnode_at.ensures ∙ outputs _ _ (opcode_is-not 3 c.opcode_at.ensures c.if-opcode_at-eq3.false)
+    c.varnode_at.ensures ∙ outputs _ _ (opcode_is_not 3 c.opcode_at.ensures c.if-opcode_at-eq3.false)

@@ -1,14 +1,13 @@
 use native.Mathlib.Omega.{arith}
 use mathlib.Core.Path.{sym, ◌∙◌}
 use Rattle.machine.specs.Program.{program_of}
-use Rattle.run_window.proofs.SavedRun.{saved_begun, may_save, may-run, one_turn, saved_on, saved_next}
+use Rattle.run_window.proofs.SavedRun.{saved_begun, may_save, may_run, one_turn, saved_on, saved_next}
 use Rattle.run_memory.proofs.Spaces.{of_bytes}
-use Rattle.machine.proofs.MovedCounts.{moved-spaces_none}
+use Rattle.machine.proofs.MovedCounts.{moved_spaces_none}
 use Rattle.machine.proofs.Runs.{run_laws}
 use Rattle.run_labelled.proofs.Turning.{within, may_count, counts_on, at_ended, fewer}
 use Rattle.run_window.proofs.run_saved.Goals as goal
 
--- ---- the needs
 pub loop-settings-init : goal.loop-settings-init
 loop-settings-init c =
     let pre = c.requires in (
@@ -17,7 +16,7 @@ loop-settings-init c =
           (λ j. (c.slice_known-3-1.given j).fits))
           (of_bytes _ _ _ (λ j. (c.slice_known-4-1.given j).fits) (λ j. (c.slice_known-5-1.given j).fits)
           (λ j. (c.slice_known-6-1.given j).fits)) (pre.0, pre.1, pre.2, pre.3, pre.4, pre.5, pre.6),
-      moved-spaces_none _ _,
+      moved_spaces_none _ _,
     )
 
 pub save-requires : goal.save-requires
@@ -27,7 +26,7 @@ save-requires c =
 pub run_any-done-requires : goal.run_any-done-requires
 run_any-done-requires c =
     let inv = c.loop-settings.invariant in
-    let t = may-run inv.0 in
+    let t = may_run inv.0 in
     (t.0, t.1, t.2, t.3, t.4, may_count (run_laws _) inv.0.turning inv.1 (λ q. c.requires.7))
 
 pub overflow_add-executed : goal.overflow_add-executed

@@ -1,3 +1,4 @@
+-- `runs::run` meets its contract.
 use native.Mathlib.Omega.{arith}
 use mathlib.Core.Path.{sym, ◌∙◌}
 use mathlib.Core.Bool.{true≢false}
@@ -5,7 +6,6 @@ use Rattle.machine.specs.Calls.{unlabelled, plain_run}
 use Rattle.runs.proofs.Accepted.{accepted, leaves_as_lent, leaves_run, none_fit, plain_of}
 use Rattle.runs.proofs.run.Goals as goal
 
--- `runs::run` meets its contract.
 pub returns-then-refused-ne0 : goal.returns-then-refused-ne0
 unfolding plain_run
 returns-then-refused-ne0 c =

@@ -1,5 +1,5 @@
 use Rattle.std.proofs.Common.{◌≡◌, ◌+◌, ◌-◌, ◌*◌, length, take, sym, refl, ap, ◌∙◌, zero-add, arith, length-take}
-use Rattle.word.proofs.Stores.{storing_none, storing_more, storing_all, storing-length}
+use Rattle.word.proofs.Stores.{storing_none, storing_more, storing_all, storing_length}
 use Rattle.secret_counts.specs.Recount.{blocks, count_words, secrets}
 use Rattle.secret_counts.proofs.Filling.{secrets_few, total_more, total_all, counts-filled}
 use Rattle.secret_counts.proofs.fill.Goals as goal
@@ -41,7 +41,7 @@ loop-block-preserved c =
 pub bounds-counts-blocks : goal.bounds-counts-blocks
 unfolding count_words
 bounds-counts-blocks c =
-    omega (arith, c.count_words.ensures, c.requires.1, storing-length c.loop-block.invariant.0)
+    omega (arith, c.count_words.ensures, c.requires.1, storing_length c.loop-block.invariant.0)
 
 pub returns : goal.returns
 unfolding count_words

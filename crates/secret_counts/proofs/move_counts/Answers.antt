@@ -1,10 +1,9 @@
+-- `secret_counts::move_counts` meets its contract.
 use Rattle.std.proofs.Common.{◌-◌, ◌%◌, arith}
 use Rattle.word.proofs.Powers.{pow_bits}
-use Rattle.secret_counts.proofs.LabelWords.{total_inside, block_first, near-moved, next_first, far-moved}
+use Rattle.secret_counts.proofs.LabelWords.{total_inside, block_first, near_moved, next_first, far_moved}
 use Rattle.secret_counts.proofs.move_counts.Goals as goal
 
--- `secret_counts::move_counts` meets its contract.
--- ---- places: past the gain, from the first word that grew, and from the two branches
 pub grow-requires : goal.grow-requires
 grow-requires c =
     let p = c.requires in
@@ -21,7 +20,7 @@ pub returns-then-size-near : goal.returns-then-size-near
 returns-then-size-near c =
     let p = c.requires in
     rw (c.grow-then-size-near.ensures, c.grow.ensures)
-    (near-moved _ _ _ _ _ _ c.args.counts.now p.0 p.1 p.2 p.3 p.4 p.5 c.gained-more.ensures c.if-size-near.true)
+    (near_moved _ _ _ _ _ _ c.args.counts.now p.0 p.1 p.2 p.3 p.4 p.5 c.gained-more.ensures c.if-size-near.true)
 
 pub grow-requires-2 : goal.grow-requires-2
 grow-requires-2 c =
@@ -42,5 +41,5 @@ pub returns : goal.returns
 returns c =
     let p = c.requires in
     rw (c.grow-3.ensures, c.grow-2.ensures, c.grow.ensures)
-    (far-moved _ _ _ _ _ _ c.args.counts.now p.0 p.1 p.2 p.3 p.4 p.5 c.gained-more.ensures c.if-size-near.false _ _
+    (far_moved _ _ _ _ _ _ c.args.counts.now p.0 p.1 p.2 p.3 p.4 p.5 c.gained-more.ensures c.if-size-near.false _ _
     (rw (pow_bits (64 - c.args.at % 64)) c.gained-far.ensures) c.wrapping_sub_u64.ensures.value)

@@ -1,10 +1,10 @@
+-- `show::show` meets its contract.
 use mathlib.Core.Path.{◌∙◌}
 use Rattle.std.proofs.Common.{arith, ◌≢◌}
 use borrow.Author.Tests.{ne_eqb}
 use Rattle.show.specs.Show.{shown}
 use Rattle.show.proofs.show.Goals as goal
 
--- `show::show` meets its contract.
 pub returns-in-2 : goal.returns-in-2
 unfolding shown
 returns-in-2 c = c.shown_in.ensures ∙ simp c.in-2.is

@@ -1,10 +1,10 @@
+-- `show::shown_in` meets its contract.
 use mathlib.Core.Path.{sym, ◌∙◌}
 use native.Mathlib.Omega.{arith}
 use Rattle.show.proofs.Parts.{showable_end, end_less_start}
 use Rattle.show.specs.Show.{shown_in}
 use Rattle.show.proofs.shown_in.Goals as goal
 
--- `show::shown_in` meets its contract.
 pub overflow_add-end : goal.overflow_add-end
 overflow_add-end c = omega (arith, showable_end _ _ _ (sym c.showable.ensures ∙ c.if-showable.true))
 

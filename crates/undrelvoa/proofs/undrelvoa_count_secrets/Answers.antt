@@ -1,11 +1,11 @@
 use mathlib.Core.Path.{ap, sym, ◌∙◌}
-use Rattle.undrelvoa_faults.proofs.Passed.{report-passed}
+use Rattle.undrelvoa_faults.proofs.Passed.{report_passed}
 use Rattle.undrelvoa.specs.Buffers.{after_counting}
 use Rattle.undrelvoa.proofs.undrelvoa_count_secrets.Goals as goal
 
 pub write_report-requires : goal.write_report-requires
 write_report-requires c =
-    report-passed _ (sym c.of_report-fault.ensures ∙ c.if-fault-ne0.false)
+    report_passed _ (sym c.of_report-fault.ensures ∙ c.if-fault-ne0.false)
 
 pub returns : goal.returns
 unfolding after_counting

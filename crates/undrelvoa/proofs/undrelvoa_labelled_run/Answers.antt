@@ -1,14 +1,14 @@
 use mathlib.Core.Path.{ap, sym, ◌∙◌}
-use Rattle.undrelvoa_faults.proofs.Passed.{lengths-passed}
+use Rattle.undrelvoa_faults.proofs.Passed.{lengths_passed}
 use Rattle.undrelvoa.specs.Buffers.{after, after_labelled}
 use Rattle.undrelvoa.proofs.undrelvoa_labelled_run.Goals as goal
 
 pub settings_in-settings-requires : goal.settings_in-settings-requires
-settings_in-settings-requires c = (lengths-passed _ _ (sym c.of_lengths-fault.ensures ∙ c.if-fault-ne0.false)).0
+settings_in-settings-requires c = (lengths_passed _ _ (sym c.of_lengths-fault.ensures ∙ c.if-fault-ne0.false)).0
 
 pub write_report-requires : goal.write_report-requires
 write_report-requires c =
-    (lengths-passed _ _ (sym c.of_lengths-fault.ensures ∙ c.if-fault-ne0.false)).1
+    (lengths_passed _ _ (sym c.of_lengths-fault.ensures ∙ c.if-fault-ne0.false)).1
 
 pub returns : goal.returns
 unfolding after after_labelled

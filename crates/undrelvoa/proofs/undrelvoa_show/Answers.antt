@@ -1,11 +1,11 @@
 use mathlib.Core.Path.{refl, sym, ◌∙◌}
-use Rattle.undrelvoa_faults.proofs.Passed.{place-passed}
+use Rattle.undrelvoa_faults.proofs.Passed.{place_passed}
 use Rattle.undrelvoa.specs.Answers.{place_words}
 use Rattle.undrelvoa.proofs.undrelvoa_show.Goals as goal
 
 pub write_place-requires : goal.write_place-requires
 write_place-requires c =
-    place-passed _ (sym c.of_place-fault.ensures ∙ c.if-fault-ne0.false)
+    place_passed _ (sym c.of_place-fault.ensures ∙ c.if-fault-ne0.false)
 
 pub returns : goal.returns
 unfolding place_words

@@ -1,8 +1,8 @@
+-- `undrelvoa_faults::of_gather` meets its contract.
 use mathlib.Core.Path.{refl}
 use Rattle.undrelvoa_faults.specs.Faults.{gather_fault}
 use Rattle.undrelvoa_faults.proofs.of_gather.Goals as goal
 
--- `undrelvoa_faults::of_gather` meets its contract.
 pub returns : goal.returns
 unfolding gather_fault
 returns c =

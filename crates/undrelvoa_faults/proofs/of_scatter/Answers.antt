@@ -1,8 +1,8 @@
+-- `undrelvoa_faults::of_scatter` meets its contract.
 use mathlib.Core.Path.{refl}
 use Rattle.undrelvoa_faults.specs.Faults.{scatter_fault}
 use Rattle.undrelvoa_faults.proofs.of_scatter.Goals as goal
 
--- `undrelvoa_faults::of_scatter` meets its contract.
 pub returns : goal.returns
 unfolding scatter_fault
 returns c =

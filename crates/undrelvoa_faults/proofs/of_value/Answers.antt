@@ -1,8 +1,8 @@
+-- `undrelvoa_faults::of_value` meets its contract.
 use mathlib.Core.Path.{refl}
 use Rattle.undrelvoa_faults.specs.Faults.{value_fault}
 use Rattle.undrelvoa_faults.proofs.of_value.Goals as goal
 
--- `undrelvoa_faults::of_value` meets its contract.
 pub returns : goal.returns
 unfolding value_fault
 returns c =

@@ -1,8 +1,8 @@
+-- `undrelvoa_faults::sizes_present` meets its contract.
 use mathlib.Core.Path.{refl}
 use Rattle.undrelvoa_faults.specs.Faults.{sizes_present}
 use Rattle.undrelvoa_faults.proofs.sizes_present.Goals as goal
 
--- `undrelvoa_faults::sizes_present` meets its contract.
 pub returns : goal.returns
 unfolding sizes_present
 returns c =

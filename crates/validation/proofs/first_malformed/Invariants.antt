@@ -1,3 +1,4 @@
+-- `validation::first_malformed` meets its contract. The walk has found no fault before operation i, nor rule 22 before the place.
 use Prim.Native.Nat.{◌+◌, ◌-◌, ◌≤◌}
 use mathlib.Core.Bool.{false}
 use mathlib.Core.Path.{◌≡◌}
@@ -7,7 +8,6 @@ use Rattle.operation.specs.Rules.{breaks_shape_at, breaks_place, breaks_range}
 use Rattle.validation.specs.Verdict.{first_malformed, any_below, lowest_rule}
 use Rattle.validation.proofs.first_malformed.Given as goal
 
--- `validation::first_malformed` meets its contract. The walk has found no fault before operation i, nor rule 22 before the place.
 abbrev pub invariant-loop-place : goal.invariant-loop-place
 invariant-loop-place l =
     (l.place ≤ most_inputs + 1) × (l.rule ≡ 0) × (any_below l.place (breaks_shape_at l.list l.i) ≡ false)

@@ -1,8 +1,8 @@
+-- `validation::lengths_in_range` meets its contract.
 use mathlib.Core.Path.{refl}
 use Rattle.validation.specs.Verdict.{lengths_in_range}
 use Rattle.validation.proofs.lengths_in_range.Goals as goal
 
--- `validation::lengths_in_range` meets its contract.
 pub returns : goal.returns
 unfolding lengths_in_range
 returns c =

@@ -1,8 +1,8 @@
+-- `validation::settings_in_range` meets its contract.
 use mathlib.Core.Path.{refl}
 use Rattle.validation.specs.Verdict.{settings_in_range}
 use Rattle.validation.proofs.settings_in_range.Goals as goal
 
--- `validation::settings_in_range` meets its contract.
 pub returns : goal.returns
 unfolding settings_in_range
 returns c =

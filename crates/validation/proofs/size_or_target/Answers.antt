@@ -1,10 +1,10 @@
+-- `validation::size_or_target` meets its contract.
 use mathlib.Core.Path.{refl}
 use borrow.Author.Rules.{rules}
 use Rattle.operation.specs.Layout.{operation_count}
 use Rattle.validation.specs.Verdict.{size_or_target}
 use Rattle.validation.proofs.size_or_target.Goals as goal
 
--- `validation::size_or_target` meets its contract.
 pub breaks_target-requires : goal.breaks_target-requires
 unfolding operation_count
 breaks_target-requires c = search rules

@@ -1,8 +1,8 @@
+-- `validation::verdict` meets its contract.
 use mathlib.Core.Path.{sym, ◌∙◌}
 use Rattle.validation.specs.Verdict.{verdict}
 use Rattle.validation.proofs.verdict.Goals as goal
 
--- `validation::verdict` meets its contract.
 pub returns-then-not-settings_in_range : goal.returns-then-not-settings_in_range
 unfolding verdict
 returns-then-not-settings_in_range c = rw (sym c.settings_in_range.ensures ∙ c.if-not-settings_in_range.true) c.refusal_report.ensures

@@ -1,8 +1,8 @@
+-- `validation::wordsizes_in_range` meets its contract.
 use mathlib.Core.Path.{refl}
 use Rattle.validation.specs.Verdict.{wordsizes_in_range}
 use Rattle.validation.proofs.wordsizes_in_range.Goals as goal
 
--- `validation::wordsizes_in_range` meets its contract.
 pub returns : goal.returns
 unfolding wordsizes_in_range
 returns c =

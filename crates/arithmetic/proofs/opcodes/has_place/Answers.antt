@@ -1,10 +1,10 @@
+-- `arithmetic::opcodes::has_place` meets its contract.
 use mathlib.Core.Path.{sym, ap, ◌∙◌}
 use native.Mathlib.Omega.{arith}
 use Rattle.arithmetic.specs.Opcodes.{has_place}
 use Rattle.arithmetic.proofs.Table.{with_output, with_input0, with_input1, with_input2, no_place}
 use Rattle.arithmetic.proofs.opcodes.has_place.Goals as goal
 
--- `arithmetic::opcodes::has_place` meets its contract.
 pub returns-in-0 : goal.returns-in-0
 returns-in-0 c = c.has_bit.ensures ∙ with_output _ ∙ ap (has_place _) (sym c.in-0.is)
 

@@ -1,3 +1,4 @@
+-- `arithmetic::operands::sizes_agree` meets its contract: each line is a sentence of rule 25.
 use mathlib.Core.Path.{refl, ◌∙◌}
 use Rattle.integer.proofs.Booleans.{pick_is}
 use Rattle.arithmetic.specs.Opcodes.{sizes_of}
@@ -6,7 +7,6 @@ use Rattle.arithmetic.proofs.Table.{kept-set, equal-set, compared-set, extended-
 use Rattle.arithmetic.proofs.Agreement.{tested, by_sentence}
 use Rattle.arithmetic.proofs.operands.sizes_agree.Goals as goal
 
--- `arithmetic::operands::sizes_agree` meets its contract: each line is a sentence of rule 25.
 pub returns-then-has_bit : goal.returns-then-has_bit
 unfolding sizes_agree
 returns-then-has_bit c =

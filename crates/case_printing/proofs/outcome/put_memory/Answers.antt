@@ -1,3 +1,4 @@
+-- `case_printing::outcome::put_memory` meets its contract.
 use native.Mathlib.Omega.{arith}
 use borrow.Author.Rules.{rules}
 use Rattle.machine.specs.Memory.{lengths_of}
@@ -5,7 +6,6 @@ use Rattle.case_printing.specs.Outcome.{memory_text}
 use Rattle.case_printing.proofs.Appending.{then}
 use Rattle.case_printing.proofs.outcome.put_memory.Goals as goal
 
--- `case_printing::outcome::put_memory` meets its contract.
 pub put_space-p-requires : goal.put_space-p-requires
 unfolding lengths_of
 put_space-p-requires c = search rules

@@ -1,3 +1,4 @@
+-- `case_printing::outcome::put_outcome` meets its contract.
 use native.Mathlib.Omega.{arith}
 use Rattle.case_printing.proofs.Appending.{then}
 use Rattle.case_printing.proofs.Lengths.{past_report, past_log}
@@ -5,7 +6,6 @@ use Rattle.case_printing.specs.Outcome.{outcome_text, report_line}
 use lib.Seq.{length-take-le}
 use Rattle.case_printing.proofs.outcome.put_outcome.Goals as goal
 
--- `case_printing::outcome::put_outcome` meets its contract.
 pub put_log-q-requires : goal.put_log-q-requires
 put_log-q-requires c =
     let p = past_report _ _ _ _ _ c.put_report-p.ensures in

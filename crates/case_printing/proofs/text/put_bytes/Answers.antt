@@ -5,7 +5,7 @@ use lib.ListN.{length, get_or}
 use Rattle.case_hexadecimal.specs.Digits.{byte_digits}
 use Rattle.case_printing.specs.Text.{bytes_text}
 use Rattle.case_printing.proofs.Appending.{concatenated_none, concatenated_then}
-use Rattle.case_printing.proofs.Lengths.{length_hex, past-concatenated, past_bytes}
+use Rattle.case_printing.proofs.Lengths.{length_hex, past_concatenated, past_bytes}
 use Rattle.case_printing.proofs.text.put_bytes.Invariants.{digits}
 use Rattle.case_printing.proofs.text.put_bytes.Goals as goal
 
@@ -16,7 +16,7 @@ pub put_hex-p-requires : goal.put_hex-p-requires
 put_hex-p-requires c =
     let l = c.loop-i in
     let s = c.args.s.now in
-    let so_far = past-concatenated byte_digits l.i (digits s) (λ k. omega (arith, length_hex byte_digits (get_or s k 0))) l.invariant.1 in
+    let so_far = past_concatenated byte_digits l.i (digits s) (λ k. omega (arith, length_hex byte_digits (get_or s k 0))) l.invariant.1 in
     omega (arith, so_far)
 
 pub loop-i-preserved : goal.loop-i-preserved

@@ -1,3 +1,4 @@
+-- `case_printing::text::put_bytes` meets its contract. The loop's invariant: the digits of the bytes passed are put.
 use Prim.Native.Nat.{ℕ, ◌-◌, ◌≤◌}
 use mathlib.Core.List.{List}
 use lib.ListN.{length, get_or}
@@ -6,7 +7,6 @@ use Rattle.case_printing.specs.Text.{concatenated, hex_text}
 use Rattle.case_printing.specs.Appended.{Appended}
 use Rattle.case_printing.proofs.text.put_bytes.Given as goal
 
--- `case_printing::text::put_bytes` meets its contract. The loop's invariant: the digits of the bytes passed are put.
 abbrev pub digits : List ℕ → ℕ → List ℕ
 digits s i = hex_text byte_digits (get_or s i 0)
 

@@ -1,10 +1,10 @@
+-- `case_printing::text::put_field` meets its contract.
 use native.Mathlib.Omega.{arith}
 use Rattle.case_printing.specs.Text.{field_text}
 use Rattle.case_printing.proofs.Appending.{then_one}
 use Rattle.case_printing.proofs.Lengths.{past_decimal, past_field}
 use Rattle.case_printing.proofs.text.put_field.Goals as goal
 
--- `case_printing::text::put_field` meets its contract.
 pub bounds-out-p : goal.bounds-out-p
 bounds-out-p c =
     let number = past_decimal _ _ c.put_decimal-p.ensures in

@@ -1,3 +1,4 @@
+-- `case_printing::text::put_log` meets its contract. The loop's invariant: the lines of the words passed are put.
 use Prim.Native.Nat.{ℕ, ◌-◌, ◌≤◌}
 use mathlib.Core.List.{List}
 use lib.ListN.{length, get_or}
@@ -5,7 +6,6 @@ use Rattle.case_printing.specs.Text.{concatenated, word_line}
 use Rattle.case_printing.specs.Appended.{Appended}
 use Rattle.case_printing.proofs.text.put_log.Given as goal
 
--- `case_printing::text::put_log` meets its contract. The loop's invariant: the lines of the words passed are put.
 abbrev pub line : List ℕ → ℕ → List ℕ
 line words i = word_line (get_or words i 0)
 

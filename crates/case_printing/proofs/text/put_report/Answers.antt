@@ -1,8 +1,8 @@
+-- `case_printing::text::put_report` meets its contract: five fields, one behind the other.
 use Rattle.case_printing.specs.Text.{report_text}
 use Rattle.case_printing.proofs.Appending.{then}
 use Rattle.case_printing.proofs.text.put_report.Goals as goal
 
--- `case_printing::text::put_report` meets its contract: five fields, one behind the other.
 pub returns : goal.returns
 unfolding report_text
 returns c =

@@ -4,8 +4,8 @@ use borrow.Author.Rules.{rules}
 use lib.ListN.{length}
 use Rattle.case_printing.specs.Text.{dump_length, bytes_per_line, line_count, space_lines}
 use Rattle.case_printing.proofs.Appending.{concatenated_none, concatenated_then}
-use Rattle.case_printing.proofs.Lengths.{length_line_bytes, length_line_most, past-concatenated, past_space}
-use Rattle.case_printing.proofs.Lines.{line-part}
+use Rattle.case_printing.proofs.Lengths.{length_line_bytes, length_line_most, past_concatenated, past_space}
+use Rattle.case_printing.proofs.Lines.{line_part}
 use Rattle.case_printing.proofs.text.put_space.Invariants.{line}
 use Rattle.case_printing.proofs.text.put_space.Goals as goal
 
@@ -17,8 +17,8 @@ put_line-p-requires c =
     let a = c.args in
     let s = a.s.now in
     let l = c.loop-k in
-    let part = ap length (line-part s l.k c.least-to.result c.least-to.ensures) in
-    let so_far = past-concatenated (dump_length bytes_per_line) l.k (line a.kind a.space s) (length_line_most a.kind a.space s) l.invariant.2 in
+    let part = ap length (line_part s l.k c.least-to.result c.least-to.ensures) in
+    let so_far = past_concatenated (dump_length bytes_per_line) l.k (line a.kind a.space s) (length_line_most a.kind a.space s) l.invariant.2 in
     omega (arith, part, length_line_bytes s l.k, so_far, c.requires.1)
 
 pub loop-k-preserved : goal.loop-k-preserved
@@ -29,7 +29,7 @@ loop-k-preserved c =
     let least = c.least-to in (
       search rules,
       refl,
-      concatenated_then l.k (line a.kind a.space s) l.invariant.2 (rw (← (line-part s l.k least.result least.ensures)) c.put_line-p.ensures),
+      concatenated_then l.k (line a.kind a.space s) l.invariant.2 (rw (← (line_part s l.k least.result least.ensures)) c.put_line-p.ensures),
     )
 
 pub returns : goal.returns

@@ -1,3 +1,4 @@
+-- `case_printing::text::put_space` meets its contract. The loop's invariant: the lines passed are put.
 use Prim.Native.Nat.{ℕ, ◌-◌, ◌*◌, ◌≤◌}
 use mathlib.Core.Path.{◌≡◌}
 use mathlib.Core.List.{List}
@@ -6,7 +7,6 @@ use Rattle.case_printing.specs.Text.{concatenated, dump_line, bytes_per_line, li
 use Rattle.case_printing.specs.Appended.{Appended}
 use Rattle.case_printing.proofs.text.put_space.Given as goal
 
--- `case_printing::text::put_space` meets its contract. The loop's invariant: the lines passed are put.
 abbrev pub line : (kind space : ℕ) → List ℕ → ℕ → List ℕ
 line kind space s k = dump_line kind space (bytes_per_line * k) (line_bytes s k)
 

@@ -1,3 +1,4 @@
+-- `case_reader::line::continue_with` meets its contract.
 use Rattle.std.proofs.Common.{rules, ap, not}
 use Rattle.case_reader.specs.Case.{line_added}
 use Rattle.case_reader.proofs.Feeding.{fed_bad, placed, stores, fed_outside, fed_memory, fed_labels, stores_words, fed_full, fed_operation}
@@ -32,7 +33,6 @@ store_words-requires c =
     stores_words c.args.number c.args.s.now c.frame_of.ensures.answer _ _ _ _ c.requires c.in-Operation.is
     c.if-header-eq-MOST_CASE_OPERATIONS.false
 
--- `case_reader::line::continue_with` meets its contract.
 pub returns-in-Opening : goal.returns-in-Opening
 unfolding line_added
 returns-in-Opening c =

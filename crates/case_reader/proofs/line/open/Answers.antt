@@ -1,9 +1,9 @@
+-- `case_reader::line::open` meets its contract.
 use mathlib.Core.Path.{sym, ◌∙◌}
 use Rattle.case_reader.specs.Case.{opened}
 use Rattle.case_reader.proofs.Feeding.{open_case, open_bad}
 use Rattle.case_reader.proofs.line.open.Goals as goal
 
--- `case_reader::line::open` meets its contract.
 pub returns-then-lengths_fit : goal.returns-then-lengths_fit
 returns-then-lengths_fit c =
     λ m ls ws h. open_case _ _ c.frame_of.ensures.answer m ls ws h _ _ _ c.in-Opening.is (sym c.lengths_fit.ensures ∙ c.if-lengths_fit.true)

@@ -1,3 +1,4 @@
+-- `case_reader::stream::start` meets its contract.
 use mathlib.Core.Path.{refl, sym}
 use native.Mathlib.Omega.{arith}
 use Prim.Native.Nat.{ℕ}
@@ -7,7 +8,6 @@ use Rattle.case_reader.specs.Buffers.{progress_in}
 use Rattle.case_reader.specs.Limits.{line_room}
 use Rattle.case_reader.proofs.stream.start.Goals as goal
 
--- `case_reader::stream::start` meets its contract.
 pub returns : goal.returns
 unfolding progress_in no_line lines_read lines_of rest_of
 returns c =

@@ -1,7 +1,7 @@
+-- `integer::boolean::flag` meets its contract.
 use Rattle.integer.specs.Operations.{flag}
 use Rattle.integer.proofs.boolean.flag.Goals as goal
 
--- `integer::boolean::flag` meets its contract.
 pub returns-then-b : goal.returns-then-b
 unfolding flag
 returns-then-b c = rw c.if-b.true

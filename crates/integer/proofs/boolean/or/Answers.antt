@@ -1,8 +1,8 @@
+-- `integer::boolean::or` meets its contract.
 use Rattle.std.proofs.Common.{eq-eqb, ne_eqb}
 use Rattle.integer.specs.Operations.{flag, truth, bool_or}
 use Rattle.integer.proofs.boolean.or.Goals as goal
 
--- `integer::boolean::or` meets its contract.
 pub returns-then-a-eq0 : goal.returns-then-a-eq0
 unfolding truth bool_or
 returns-then-a-eq0 c = rw (eq-eqb c.args.a 0 c.if-a-eq0.true) c.flag.ensures

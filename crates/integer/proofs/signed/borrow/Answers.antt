@@ -1,3 +1,4 @@
+-- `integer::signed::borrow` meets its contract.
 use Rattle.std.proofs.Common.{◌^◌, ◌<◌, sym, ◌∙◌, ap₂, rules}
 use mathlib.Core.Bool.{beq}
 use Rattle.integer.proofs.Overflow.{borrow_by_signs, same_sign, other_sign, agrees}
@@ -5,7 +6,6 @@ use Rattle.integer.proofs.TwosComplement.{wrap_lt}
 use Rattle.integer.specs.Operations.{int_sub}
 use Rattle.integer.proofs.signed.borrow.Goals as goal
 
--- `integer::signed::borrow` meets its contract.
 pub is_negative-s-requires : goal.is_negative-s-requires
 unfolding int_sub
 is_negative-s-requires c =

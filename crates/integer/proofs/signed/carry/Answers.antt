@@ -1,3 +1,4 @@
+-- `integer::signed::carry` meets its contract.
 use Rattle.std.proofs.Common.{◌^◌, ◌<◌, Bool, not, sym, ◌∙◌, ap₂, mod-lt, rules}
 use mathlib.Core.Bool.{beq}
 use Rattle.integer.proofs.Overflow.{carry_by_signs, same_sign, other_sign, differs}
@@ -5,7 +6,6 @@ use Rattle.word.proofs.Powers.{size_pos}
 use Rattle.integer.specs.Operations.{int_add}
 use Rattle.integer.proofs.signed.carry.Goals as goal
 
--- `integer::signed::carry` meets its contract.
 pub is_negative-s-requires : goal.is_negative-s-requires
 unfolding int_add
 is_negative-s-requires c =

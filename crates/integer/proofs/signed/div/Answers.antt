@@ -1,8 +1,8 @@
+-- `integer::signed::div` meets its contract.
 use Rattle.integer.proofs.Division.{divides, sdiv_is, sdiv_least}
 use Rattle.integer.proofs.signed.div.Goals as goal
 use Rattle.integer.proofs.signed.div.Goals.{then-q+else-p, else-q}
 
--- `integer::signed::div` meets its contract.
 pub returns-then-p : goal.returns-then-p
 returns-then-p c =
     let pre = c.requires in

@@ -1,7 +1,7 @@
+-- `integer::signed::rem` meets its contract.
 use Rattle.integer.proofs.Division.{divides, srem_is, srem_by_minus_one}
 use Rattle.integer.proofs.signed.rem.Goals as goal
 
--- `integer::signed::rem` meets its contract.
 pub returns-then-q : goal.returns-then-q
 returns-then-q c =
     srem_by_minus_one _ _ _ c.value_of-p.result c.value_of-q.result (record { sfits = c.value_of-p.type_inv }) (record { sfits = c.value_of-q.type_inv })

@@ -1,3 +1,4 @@
+-- `integer::signed::right` meets its contract.
 use Rattle.std.proofs.Common.{◌^◌, ℤ, sym, ap, ◌∙◌, w64, SFits, le-ltb, lt-ltb}
 use lib.Signed.{shr_z}
 use mir.ValLaws.{to_z-of_z}
@@ -5,7 +6,6 @@ use Rattle.integer.proofs.TwosComplement.{written, shift_fits, sign_test}
 use Rattle.integer.specs.Operations.{int_sright}
 use Rattle.integer.proofs.signed.right.Goals as goal
 
--- `integer::signed::right` meets its contract.
 pub returns-then-b-size : goal.returns-then-b-size
 unfolding int_sright
 returns-then-b-size c =

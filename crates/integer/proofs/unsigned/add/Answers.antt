@@ -1,9 +1,9 @@
+-- `integer::unsigned::add` meets its contract.
 use Rattle.std.proofs.Common.{◌+◌, ◌∙◌}
 use Rattle.word.proofs.Powers.{low_part_lem}
 use Rattle.integer.specs.Operations.{int_add}
 use Rattle.integer.proofs.unsigned.add.Goals as goal
 
--- `integer::unsigned::add` meets its contract.
 pub returns : goal.returns
 unfolding int_add
 returns c =

@@ -1,9 +1,9 @@
+-- `integer::unsigned::mult` meets its contract.
 use Rattle.std.proofs.Common.{◌*◌, ◌∙◌}
 use Rattle.word.proofs.Powers.{low_part_lem}
 use Rattle.integer.specs.Operations.{int_mult}
 use Rattle.integer.proofs.unsigned.mult.Goals as goal
 
--- `integer::unsigned::mult` meets its contract.
 pub returns : goal.returns
 unfolding int_mult
 returns c =

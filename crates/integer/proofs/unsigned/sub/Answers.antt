@@ -1,8 +1,8 @@
+-- `integer::unsigned::sub` meets its contract.
 use Rattle.std.proofs.Common.{◌∙◌, arith}
 use Rattle.integer.proofs.Whole.{sub_is}
 use Rattle.integer.proofs.unsigned.sub.Goals as goal
 
--- `integer::unsigned::sub` meets its contract.
 pub returns : goal.returns
 returns c =
     c.low.ensures

@@ -1,10 +1,10 @@
+-- `integer::unsigned::subpiece` meets its contract.
 use Rattle.std.proofs.Common.{sym, ◌∙◌}
 use Rattle.integer.proofs.Whole.{dropped_all}
 use Rattle.integer.specs.Operations.{subpiece}
 use Rattle.word.proofs.Powers.{pow_bits}
 use Rattle.integer.proofs.unsigned.subpiece.Goals as goal
 
--- `integer::unsigned::subpiece` meets its contract.
 pub returns-then-b-ge8 : goal.returns-then-b-ge8
 returns-then-b-ge8 c = sym (dropped_all _ _ _ c.ranges.a.fits c.if-b-ge8.true)
 

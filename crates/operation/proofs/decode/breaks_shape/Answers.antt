@@ -1,9 +1,9 @@
+-- `operation::decode::breaks_shape` meets its contract.
 use mathlib.Core.Path.{◌∙◌}
 use borrow.Author.Tests.{eq-eqb, ne_eqb}
 use Rattle.operation.proofs.Decoding.{shape_broken}
 use Rattle.operation.proofs.decode.breaks_shape.Goals as goal
 
--- `operation::decode::breaks_shape` meets its contract.
 pub returns-then-descriptor-eq0 : goal.returns-then-descriptor-eq0
 returns-then-descriptor-eq0 c =
     let a = c.args in

@@ -1,10 +1,10 @@
+-- `operation::decode::decode` meets its contract.
 use mathlib.Core.Path.{refl, sym, ap, ◌∙◌}
 use Rattle.operation.specs.declared.decode.Decoded.TheVariants.{Accepted}
 use Rattle.operation.specs.Decoding.{decoded}
 use Rattle.operation.proofs.Decoding.{numbered}
 use Rattle.operation.proofs.decode.decode.Goals as goal
 
--- `operation::decode::decode` meets its contract.
 pub returns-then-breaks_shape : goal.returns-then-breaks_shape
 unfolding decoded
 returns-then-breaks_shape c =

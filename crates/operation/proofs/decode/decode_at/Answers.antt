@@ -1,3 +1,4 @@
+-- `operation::decode::decode_at` meets its contract.
 use Prim.Native.Nat.{ℕ}
 use mathlib.Core.Path.{◌∙◌, ap}
 use Rattle.operation.specs.Layout.{descriptor_at, offset_at}
@@ -6,7 +7,6 @@ use Rattle.operation.specs.Decoding.{decoded_at}
 use Rattle.operation.proofs.Decoding.{same_decoding}
 use Rattle.operation.proofs.decode.decode_at.Goals as goal
 
--- `operation::decode::decode_at` meets its contract.
 pub returns : goal.returns
 unfolding decoded_at descriptor_at offset_at
 returns c =

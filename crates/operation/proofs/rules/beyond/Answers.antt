@@ -1,10 +1,10 @@
+-- `operation::rules::beyond` meets its contract.
 use mathlib.Core.Bool.{not}
 use mathlib.Core.Path.{sym, ap}
 use borrow.Author.Tests.{eq-eqb, ne_eqb}
 use Rattle.operation.specs.Rules.{beyond}
 use Rattle.operation.proofs.rules.beyond.Goals as goal
 
--- `operation::rules::beyond` meets its contract.
 pub returns-then-space-eq0 : goal.returns-then-space-eq0
 unfolding beyond
 returns-then-space-eq0 c = rw (eq-eqb _ 0 c.if-space-eq0.true)

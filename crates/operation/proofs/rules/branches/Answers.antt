@@ -1,10 +1,10 @@
+-- `operation::rules::branches` meets its contract.
 use borrow.Author.Tests.{eq-eqb, ne_eqb}
 use Rattle.arithmetic.specs.Opcodes.{member}
 use Rattle.integer.proofs.Booleans.{or_false}
 use Rattle.operation.specs.Rules.{branches}
 use Rattle.operation.proofs.rules.branches.Goals as goal
 
--- `operation::rules::branches` meets its contract.
 pub returns-then-opcode-eq4 : goal.returns-then-opcode-eq4
 unfolding branches member
 returns-then-opcode-eq4 c = rw (eq-eqb _ 4 c.if-opcode-eq4.true)

@@ -1,8 +1,8 @@
+-- `operation::rules::breaks_head` meets its contract.
 use mathlib.Core.Path.{refl}
 use Rattle.operation.specs.Rules.{breaks_head}
 use Rattle.operation.proofs.rules.breaks_head.Goals as goal
 
--- `operation::rules::breaks_head` meets its contract.
 pub returns : goal.returns
 unfolding breaks_head
 returns c =

@@ -1,8 +1,8 @@
+-- `operation::rules::breaks_input0_place` meets its contract.
 use mathlib.Core.Path.{refl, sym, ◌∙◌}
 use Rattle.operation.specs.Rules.{breaks_place}
 use Rattle.operation.proofs.rules.breaks_input0_place.Goals as goal
 
--- `operation::rules::breaks_input0_place` meets its contract.
 pub returns-then-accesses : goal.returns-then-accesses
 unfolding breaks_place
 returns-then-accesses c = rw (sym c.accesses.ensures ∙ c.if-accesses.true, c.names_space.ensures) refl

@@ -1,8 +1,8 @@
+-- `operation::rules::breaks_range` meets its contract.
 use mathlib.Core.Path.{refl, sym, ◌∙◌}
 use Rattle.operation.specs.Rules.{breaks_range}
 use Rattle.operation.proofs.rules.breaks_range.Goals as goal
 
--- `operation::rules::breaks_range` meets its contract.
 pub returns-then-both : goal.returns-then-both
 unfolding breaks_range
 returns-then-both c =

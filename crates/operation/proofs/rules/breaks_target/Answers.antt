@@ -1,8 +1,8 @@
+-- `operation::rules::breaks_target` meets its contract.
 use mathlib.Core.Path.{refl, sym, ◌∙◌}
 use Rattle.operation.specs.Rules.{breaks_target}
 use Rattle.operation.proofs.rules.breaks_target.Goals as goal
 
--- `operation::rules::breaks_target` meets its contract.
 pub returns-then-both : goal.returns-then-both
 unfolding breaks_target
 returns-then-both c =

@@ -1,10 +1,10 @@
+-- `operation::rules::jumps` meets its contract.
 use borrow.Author.Tests.{eq-eqb, ne_eqb}
 use Rattle.arithmetic.specs.Opcodes.{member}
 use Rattle.integer.proofs.Booleans.{or_false}
 use Rattle.operation.specs.Rules.{jumps}
 use Rattle.operation.proofs.rules.jumps.Goals as goal
 
--- `operation::rules::jumps` meets its contract.
 pub returns-then-opcode-eq6 : goal.returns-then-opcode-eq6
 unfolding jumps member
 returns-then-opcode-eq6 c = rw (eq-eqb _ 6 c.if-opcode-eq6.true)

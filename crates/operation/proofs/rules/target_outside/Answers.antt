@@ -1,7 +1,7 @@
+-- `operation::rules::target_outside` meets its contract.
 use Rattle.operation.proofs.Targets.{forward, backward}
 use Rattle.operation.proofs.rules.target_outside.Goals as goal
 
--- `operation::rules::target_outside` meets its contract.
 pub returns-then-offset-lt9223372036854775808 : goal.returns-then-offset-lt9223372036854775808
 returns-then-offset-lt9223372036854775808 c = forward _ _ _ c.requires c.if-offset-lt9223372036854775808.true
 

@@ -1,9 +1,9 @@
+-- `run_memory::labels::ordered` meets its contract.
 use mathlib.Core.Path.{refl}
 use Rattle.word.specs.Word.{significance}
 use Rattle.run_memory.proofs.Secrets.{turned_digits, turned_below}
 use Rattle.run_memory.proofs.labels.ordered.Goals as goal
 
--- `run_memory::labels::ordered` meets its contract.
 pub returns-then-not-big : goal.returns-then-not-big
 unfolding significance
 returns-then-not-big c = rw (c.if-not-big.true) record { bytes = (λ k h. refl); below = λ h. h }

@@ -1,7 +1,7 @@
+-- `run_memory::labels::relabel` meets its contract.
 use Rattle.run_memory.proofs.Relabelling.{old_fits, relabelled}
 use Rattle.run_memory.proofs.labels.relabel.Goals as goal
 
--- `run_memory::labels::relabel` meets its contract.
 pub move_counts-requires : goal.move_counts-requires
 move_counts-requires c =
     let p = c.requires in

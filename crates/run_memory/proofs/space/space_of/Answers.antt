@@ -1,9 +1,9 @@
+-- `run_memory::space::space_of` meets its contract.
 use Rattle.machine.specs.Memory.{space_of}
 use native.Mathlib.Omega.{arith}
 use mathlib.Core.Path.{◌≡◌, refl}
 use Rattle.run_memory.proofs.space.space_of.Goals as goal
 
--- `run_memory::space::space_of` meets its contract.
 pub returns-in-3 : goal.returns-in-3
 unfolding space_of
 returns-in-3 c = rw c.in-3.is refl

@@ -1,3 +1,4 @@
+-- `run_memory::varnode::read_input0` meets its contract.
 use mathlib.Core.Path.{sym, ◌∙◌}
 use mathlib.Core.Bool.{true, false}
 use native.Mathlib.Omega.{arith}
@@ -6,7 +7,6 @@ use Rattle.machine.specs.Program.{big_endian}
 use Rattle.run_memory.proofs.Spaces.{value_gathered, value_elsewhere}
 use Rattle.run_memory.proofs.varnode.read_input0.Goals as goal
 
--- `run_memory::varnode::read_input0` meets its contract.
 pub returns-then-v-lt2 : goal.returns-then-v-lt2
 returns-then-v-lt2 c =
     sym (value_elsewhere _ _ (λ e. omega arith) (λ e. omega arith) (λ e. omega arith) c.requires _)

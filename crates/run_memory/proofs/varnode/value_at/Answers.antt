@@ -1,9 +1,9 @@
+-- `run_memory::varnode::value_at` meets its contract.
 use mathlib.Core.Path.{sym, ◌∙◌}
 use native.Mathlib.Omega.{arith}
 use Rattle.run_memory.proofs.Spaces.{number_gathered, number_elsewhere}
 use Rattle.run_memory.proofs.varnode.value_at.Goals as goal
 
--- `run_memory::varnode::value_at` meets its contract.
 pub returns-then-v-lt2 : goal.returns-then-v-lt2
 returns-then-v-lt2 c =
     sym (number_elsewhere _ _ (λ e. omega arith) (λ e. omega arith) (λ e. omega arith) c.requires _)

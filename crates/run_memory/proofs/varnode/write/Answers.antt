@@ -1,3 +1,4 @@
+-- `run_memory::varnode::write` meets its contract.
 use mathlib.Core.Path.{sym}
 use lib.Dec.{lit≤}
 use Rattle.machine.specs.Program.{big_endian}
@@ -5,7 +6,6 @@ use Rattle.machine.specs.Memory.{space_of, with_space}
 use Rattle.run_memory.proofs.Spaces.{placed_in, written_in, written_elsewhere}
 use Rattle.run_memory.proofs.varnode.write.Goals as goal
 
--- `run_memory::varnode::write` meets its contract.
 pub write_in-requires : goal.write_in-requires
 unfolding space_of
 write_in-requires c =

@@ -6,7 +6,7 @@ use lib.Bits.{bit_or}
 use lib.ListN.{get_or}
 use Rattle.word.specs.Word.{significance}
 use Rattle.word.proofs.Powers.{shifted_bytes}
-use Rattle.word.proofs.Laws.{byte_fits, gathered, gathered_none, gathered-or, gathered_all}
+use Rattle.word.proofs.Laws.{byte_fits, gathered, gathered_none, gathered_or, gathered_all}
 use Rattle.word.proofs.bytes.gather_walk.Goals as goal
 
 pub loop-i-init : goal.loop-i-init
@@ -23,7 +23,7 @@ loop-i-preserved c =
     ∙ ap₂ (λ (x y : ℕ). x * 256 ^ y) c.wide.ensures c.weight-k.ensures.0 in (
       omega arith,
       ap₂ bit_or l.invariant.1 e
-          ∙ gathered-or a.big a.s.now a.at a.size (λ i. (c.type_inv.s i).fits) l.i (omega arith)
+          ∙ gathered_or a.big a.s.now a.at a.size (λ i. (c.type_inv.s i).fits) l.i (omega arith)
           ∙ ap (gathered a.big a.s.now a.at a.size) (sym (add-one l.i)),
     )
 

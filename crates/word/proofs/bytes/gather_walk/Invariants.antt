@@ -1,10 +1,9 @@
+-- `word::bytes::gather_walk` meets its contract. The loop's invariant: the value so far is the sum of the bytes passed, by their weights.
 use Prim.Native.Nat.{◌-◌, ◌≤◌}
 use mathlib.Core.Path.{◌≡◌}
 use Rattle.word.proofs.Laws.{gathered}
 use Rattle.word.proofs.bytes.gather_walk.Given as goal
 
--- `word::bytes::gather_walk` meets its contract. The loop's invariant: the value so far is the sum of the bytes passed, by their weights.
---
 abbrev pub invariant-loop-i : goal.invariant-loop-i
 invariant-loop-i l = (l.i ≤ l.size) × (l.v ≡ gathered l.big l.s l.at l.size l.i)
 

@@ -1,9 +1,9 @@
+-- `word::bytes::weight` meets its contract.
 use mathlib.Core.Path.{refl}
 use native.Mathlib.Omega.{arith}
 use Rattle.word.specs.Word.{significance}
 use Rattle.word.proofs.bytes.weight.Goals as goal
 
--- `word::bytes::weight` meets its contract.
 pub returns-then-big : goal.returns-then-big
 unfolding significance
 returns-then-big c = rw c.if-big.true (refl, omega arith)

@@ -1,10 +1,10 @@
+-- `word::size::holds` meets its contract.
 use mathlib.Core.Path.{sym}
 use native.Mathlib.Omega.{arith}
 use borrow.Author.Tests.{lt-ltb}
 use Rattle.word.proofs.Powers.{size_mono}
 use Rattle.word.proofs.size.holds.Goals as goal
 
--- `word::size::holds` meets its contract.
 pub returns-then-size-ge8 : goal.returns-then-size-ge8
 returns-then-size-ge8 c =
     let a = c.args in

@@ -1,6 +1,6 @@
+-- `word::size::largest` meets its contract.
 use Rattle.word.proofs.Powers.{largest_is}
 use Rattle.word.proofs.size.largest.Goals as goal
 
--- `word::size::largest` meets its contract.
 pub returns : goal.returns
 returns c = largest_is _ c.requires.1

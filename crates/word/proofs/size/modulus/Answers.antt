@@ -1,3 +1,4 @@
+-- `word::size::modulus` meets its contract.
 use Prim.Native.Nat.{◌*◌, ◌^◌, ◌<◌}
 use mathlib.Core.Path.{◌∙◌}
 use native.Mathlib.Nat.{one-mul, lt_of_le_of_lt}
@@ -6,7 +7,6 @@ use lib.Dec.{lit<}
 use Rattle.word.proofs.Powers.{shifted_bytes, size_mono}
 use Rattle.word.proofs.size.modulus.Goals as goal
 
--- `word::size::modulus` meets its contract.
 pub returns : goal.returns
 returns c =
     let n = c.args.size in
