@@ -1,7 +1,7 @@
 -- `run_plan::move_at` meets its contract.
 use mathlib.Core.Bool.{not}
 use Rattle.std.proofs.Common.{sym, ap, ◌∙◌}
-use Rattle.operation.specs.declared.layout.Lengths.{Lengths}
+use Rattle.operation.specs.Spaces.{Lengths}
 use Rattle.operation.specs.Rules.{length_of}
 use Rattle.machine.specs.Program.{program_of}
 use Rattle.machine.specs.Effect.{operation_at}
