@@ -12,7 +12,16 @@ pub const WORDS_PER_OPERATION: usize = MOST_INPUTS as usize + 2;
 // Bytes of the head that are used: the opcode, then the descriptor of the output and those of the inputs.
 const HEAD_BYTES: u64 = MOST_INPUTS as u64 + 2;
 
-// A number of bytes at an offset of an address space; in space 1 the offset is the value.
+// Numbers of the address spaces. A varnode of space 0 is absent, and there is no other number.
+pub const CONSTANT: u64 = 1;
+
+pub const UNIQUE: u64 = 2;
+
+pub const REGISTER: u64 = 3;
+
+pub const RAM: u64 = 4;
+
+// A number of bytes at an offset of an address space; of CONSTANT the offset is the value.
 #[derive(Clone, Copy)]
 pub struct Varnode {
     pub space: u64,
@@ -47,9 +56,9 @@ pub(crate) fn by_space(space: u64, unique: u64, register: u64, ram: u64) -> u64
     ensures { result ≡ by_space space unique register ram }
 {
     match space {
-        3 => register,
-        2 => unique,
-        4 => ram,
+        REGISTER => register,
+        UNIQUE => unique,
+        RAM => ram,
         _ => 0,
     }
 }
