@@ -13,7 +13,7 @@ abbrev pub lent : Spaces (MutBor (List ℕ)) → Memory
 lent s = spaces s.unique.now s.register.now s.ram.now
 
 -- They are the same buffers still, whatever they hold.
-abbrev pub SameBuffers : (before after : Spaces (MutBor (List ℕ))) → Type 0
-SameBuffers before after =
-    (after.unique.ghost_name ≡ before.unique.ghost_name) × (after.register.ghost_name ≡ before.register.ghost_name)
-    × (after.ram.ghost_name ≡ before.ram.ghost_name)
+pub record SameBuffers (before after : Spaces (MutBor (List ℕ))) : Type 0 where
+  pub unique : after.unique.ghost_name ≡ before.unique.ghost_name
+  pub register : after.register.ghost_name ≡ before.register.ghost_name
+  pub ram : after.ram.ghost_name ≡ before.ram.ghost_name
