@@ -1,9 +1,7 @@
 -- What a report is made of, and the numbers of refusals.
-use Rattle.std.specs.Prelude.{ℕ}
+use Rattle.std.specs.Prelude.{ℕ, Result, Ok, Err, ⊤}
 use Rattle.operation.specs.declared.report.Refusal.{Refusal}
 use Rattle.operation.specs.declared.report.Refusal.TheVariants.{Setting, Length, Label, Head, Shape, Place, Range, Size, Target, Start, Zero}
-use Rattle.operation.specs.declared.report.Refused.{Refused}
-use Rattle.operation.specs.declared.report.Report.{Report}
 
 -- Numbers of a report.
 abbrev pub report_numbers : ℕ
@@ -23,6 +21,7 @@ number_of Target = 26
 number_of Start = 27
 number_of Zero = 33
 
--- The report of a call in which nothing ran.
-abbrev pub refused_report : Refused → Report
-refused_report r = record { ending = number_of r.why; index = r.index; executed = 0; logged = 0; value = 0 }
+-- What a test says of a call, by number: 0 where nothing is refused.
+abbrev pub answer_of : Result ⊤ Refusal → ℕ
+answer_of (Ok nothing) = 0
+answer_of (Err why) = number_of why

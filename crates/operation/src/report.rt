@@ -1,6 +1,6 @@
 // What a call answers: the papers' report, and what its ending can be.
 ghost use Rattle.std.specs.Prelude.{◌≡◌};
-ghost use Rattle.operation.specs.Numbers.{number_of, refused_report};
+ghost use Rattle.operation.specs.Numbers.{number_of};
 
 // Why a run ended.
 #[derive(Clone, Copy, PartialEq, Eq)]
@@ -68,7 +68,7 @@ impl From<Refusal> for Refused {
 }
 
 impl From<Refused> for Report {
-    ghost from_gives = { λ r report. report ≡ refused_report r };
+    ghost from_gives = { λ r report. report ≡ record { ending = number_of r.why; index = r.index; executed = 0; logged = 0; value = 0 } };
 
     fn from(refused: Refused) -> Report {
         Report {
