@@ -1,5 +1,5 @@
 // What a call answers: the papers' report, and what its ending can be.
-ghost use Rattle.std.specs.Prelude.{◌≡◌};
+ghost use Rattle.std.specs.Prelude.{◌≡◌, cond, Ok, Err};
 ghost use Rattle.operation.specs.Numbers.{number_of};
 
 // Why a run ended.
@@ -33,6 +33,13 @@ pub enum Refusal {
 }
 
 impl Refusal {
+    // Refuses by this, unless a test holds.
+    pub fn unless(self, holds: bool) -> Result<(), Refusal>
+        ensures { result ≡ cond holds (Ok tt) (Err self) }
+    {
+        if holds { Ok(()) } else { Err(self) }
+    }
+
     pub fn number(self) -> u64
         ensures { result ≡ number_of self }
     {

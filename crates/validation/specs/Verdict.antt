@@ -82,6 +82,10 @@ abbrev pub found : Result ⊤ Refused → (n : ℕ) → Malformed
 found (Ok nothing) n = record { rule = 0; index = n }
 found (Err r) n = record { rule = number_of r.why; index = r.index }
 
+-- Its report.
+abbrev pub reported : Result ⊤ Refused → (n : ℕ) → Report
+reported r n = refusal_report (found r n).rule (found r n).index
+
 -- The verdict: 10, 11, the rule and index of the first malformed operation, or 0 and the number of operations.
 unfoldable pub verdict : Settings → Lengths → List ℕ → Report
 verdict settings lengths list =

@@ -4,7 +4,7 @@
 ghost use Rattle.std.specs.Prelude.{◌≡◌, ◌+◌, ◌*◌, ◌<◌, ◌≤◌, length};
 ghost use Rattle.operation.specs.Layout.{words_per_operation, operation_count};
 ghost use Rattle.operation.specs.Numbers.{answer_of};
-ghost use Rattle.validation.specs.Verdict.{wordsizes_in_range, settings_in_range, lengths_in_range, size_or_target, lowest_rule, found, malformed, verdict, refusal_report};
+ghost use Rattle.validation.specs.Verdict.{wordsizes_in_range, settings_in_range, lengths_in_range, size_or_target, lowest_rule, found, reported, malformed, verdict, refusal_report};
 
 use arithmetic::opcodes::MOST_INPUTS;
 use operation::decode::decode_at;
@@ -35,15 +35,10 @@ pub fn verdict(settings: Settings, lengths: Lengths, list: &[u64]) -> Report
 // Settings and lengths, then the operations.
 #[tactic(auto, unfolding(crate::specs::Verdict::verdict))]
 fn judge(settings: Settings, lengths: Lengths, list: &[u64]) -> Result<(), Refused>
-    ensures { refusal_report (found result (operation_count list.now)).rule (found result (operation_count list.now)).index
-        ≡ verdict settings lengths list.now }
+    ensures { reported result (operation_count list.now) ≡ verdict settings lengths list.now }
 {
-    if !settings_in_range(settings) {
-        return Err(Refusal::Setting.into());
-    }
-    if !lengths_in_range(lengths, list) {
-        return Err(Refusal::Length.into());
-    }
+    Refusal::Setting.unless(settings_in_range(settings))?;
+    Refusal::Length.unless(lengths_in_range(lengths, list))?;
     first_malformed(settings.address_size, lengths, list)
 }
 
