@@ -1,6 +1,7 @@
 -- Laws of Booleans and of tests.
 use Rattle.std.proofs.Common.{◌≡◌, ℕ, ◌<◌, ◌≤◌, Bool, true, false, cond, not, ◌&&◌, ◌||◌, leb, refl, ◌∙◌, arith, lit<, leb-true}
 use mathlib.Core.Bool.{xor}
+use mir.Val.{bool_byte}
 use Rattle.word.specs.Word.{is_size}
 use Rattle.integer.specs.Operations.{flag}
 
@@ -55,6 +56,12 @@ passed false n rest h e = (refl, e)
 -- the answer of a choice, its parts as the definition has them
 pub pick_is : {A : Type 0} {t u : Bool} {r x y a b : A} → r ≡ cond t x y → t ≡ u → x ≡ a → y ≡ b → r ≡ cond u a b
 pick_is e test first second = e ∙ rw (test, first, second) refl
+
+-- a truth value as a word of 0 or 1
+pub flag_is : (t : Bool) → bool_byte t ≡ flag t
+unfolding flag
+flag_is true = refl
+flag_is false = refl
 
 -- a result of a comparison is 0 or 1
 pub flag_lt : (t : Bool) → flag t < 2

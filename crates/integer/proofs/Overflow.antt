@@ -93,27 +93,7 @@ applied na nb nc = xor nc na && xor nc nb
 
 -- the difference's sign differs from that of a, and is that of b
 abbrev borrowed : Bool → Bool → Bool → Bool
-borrowed na nb nc = xor nc na && not (xor nc nb)
-
--- what the code answers where the sign of c is that of a, and where it is not
-pub same_sign : (o na nc rest : Bool) → o ≡ xor nc na && rest → beq nc na ≡ true → false ≡ o
-unfolding xor
-same_sign o na nc rest e t = sym (e ∙ rw t)
-
-pub other_sign : (o na nc rest : Bool) → o ≡ xor nc na && rest → beq nc na ≡ false → rest ≡ o
-unfolding xor
-other_sign o na nc rest e t = sym (e ∙ rw t)
-
-pub differs : (p q : Bool) → not (beq p q) ≡ xor p q
-unfolding xor
-differs p q = refl
-
-pub agrees : (p q : Bool) → beq p q ≡ not (xor p q)
-unfolding xor
-agrees true true = refl
-agrees true false = refl
-agrees false true = refl
-agrees false false = refl
+borrowed na nb nc = xor nc na && beq nc nb
 
 -- numbers of different signs carry nothing, and of one sign borrow nothing
 applied_apart : (t u : Bool) → false ≡ applied (not u) (not (not u)) (not t)

@@ -65,10 +65,7 @@ pub fn carry(size: u64, a: u64, b: u64) -> bool
     ensures { result ≡ overflows size (signed size a +ℤ signed size b) }
 {
     let s = is_negative(size, add(size, a, b));
-    if s == is_negative(size, a) {
-        return false;
-    }
-    s != is_negative(size, b)
+    (s != is_negative(size, a)) & (s != is_negative(size, b))
 }
 
 // The difference of two numbers of different signs has the sign of the one taken away.
@@ -77,10 +74,7 @@ pub fn borrow(size: u64, a: u64, b: u64) -> bool
     ensures { result ≡ overflows size (signed size a -ℤ signed size b) }
 {
     let s = is_negative(size, sub(size, a, b));
-    if s == is_negative(size, a) {
-        return false;
-    }
-    s == is_negative(size, b)
+    (s != is_negative(size, a)) & (s == is_negative(size, b))
 }
 
 pub fn right(size: u64, a: u64, b: u64) -> u64
@@ -89,24 +83,22 @@ pub fn right(size: u64, a: u64, b: u64) -> u64
 {
     let z = value_of(size, a);
     if b < 8 * size {
-        return wrapped(size, z >> b);
+        wrapped(size, z >> b)
+    } else if z < 0 {
+        largest(size)
+    } else {
+        0
     }
-    if z < 0 { largest(size) } else { 0 }
 }
 
-// The least 64-bit number by -1 is the one quotient that does not fit; smaller sizes wrap.
+// The least 64-bit number by -1 is the one quotient that does not fit; `wrapping_div` gives that number again.
 pub fn div(size: u64, a: u64, b: u64) -> u64
     requires { (1 ≤ size) × (size ≤ 8) × (a < 256 ^ size) × (b < 256 ^ size) × (0 < b) }
     ensures { result ≡ int_sdiv size a b }
 {
     let p = value_of(size, a);
     let q = value_of(size, b);
-    if q == -1 {
-        if p == -9223372036854775808 {
-            return a;
-        }
-    }
-    wrapped(size, p / q)
+    wrapped(size, p.wrapping_div(q))
 }
 
 pub fn rem(size: u64, a: u64, b: u64) -> u64
@@ -115,8 +107,5 @@ pub fn rem(size: u64, a: u64, b: u64) -> u64
 {
     let p = value_of(size, a);
     let q = value_of(size, b);
-    if q == -1 {
-        return 0;
-    }
-    wrapped(size, p % q)
+    wrapped(size, p.wrapping_rem(q))
 }
