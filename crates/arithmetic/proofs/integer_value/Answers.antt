@@ -4,7 +4,7 @@ use mathlib.Core.Path.{refl, sym, ap, ◌∙◌}
 use native.Mathlib.Omega.{arith}
 use Rattle.word.specs.Sum.{tabulate}
 use Rattle.integer.proofs.Bits.{negate_is, xor_is, and_is, or_is}
-use Rattle.integer.proofs.Booleans.{not-not}
+use Rattle.integer.proofs.Booleans.{flag_is, not-not}
 use Rattle.arithmetic.proofs.Lookup.{lookup_none}
 use Rattle.arithmetic.proofs.Agreement.{agreed, nonzero, halves_fit, size_kept, all_equal, inputs_equal}
 use Rattle.integer.proofs.Overflow.{opposite_is}
@@ -84,27 +84,27 @@ returns-in-12 c = rw c.in-12.is c.popcount.ensures
 
 pub returns-in-13 : goal.returns-in-13
 unfolding lookup integer_results int_equal
-returns-in-13 c = rw c.in-13.is c.flag.ensures
+returns-in-13 c = rw c.in-13.is (c.from.ensures ∙ flag_is _)
 
 pub returns-in-14 : goal.returns-in-14
 unfolding lookup integer_results int_not_equal
-returns-in-14 c = rw c.in-14.is c.flag-in-14.ensures
+returns-in-14 c = rw c.in-14.is (c.from-in-14.ensures ∙ flag_is _)
 
 pub returns-in-15 : goal.returns-in-15
 unfolding lookup integer_results int_less
-returns-in-15 c = rw c.in-15.is c.flag-in-15.ensures
+returns-in-15 c = rw c.in-15.is (c.from-in-15.ensures ∙ flag_is _)
 
 pub returns-in-16 : goal.returns-in-16
 unfolding lookup integer_results int_sless
-returns-in-16 c = rw c.in-16.is (c.flag-in-16.ensures ∙ ap flag c.less.ensures)
+returns-in-16 c = rw c.in-16.is (c.from-in-16.ensures ∙ flag_is _ ∙ ap flag c.less.ensures)
 
 pub returns-in-17 : goal.returns-in-17
 unfolding lookup integer_results int_less_equal
-returns-in-17 c = rw c.in-17.is c.flag-in-17.ensures
+returns-in-17 c = rw c.in-17.is (c.from-in-17.ensures ∙ flag_is _)
 
 pub returns-in-18 : goal.returns-in-18
 unfolding lookup integer_results int_sless_equal
-returns-in-18 c = rw c.in-18.is (c.flag-in-18.ensures ∙ ap flag c.less_equal.ensures)
+returns-in-18 c = rw c.in-18.is (c.from-in-18.ensures ∙ flag_is _ ∙ ap flag c.less_equal.ensures)
 
 pub returns-in-19 : goal.returns-in-19
 unfolding lookup integer_results int_zext
@@ -124,15 +124,15 @@ returns-in-22 c = rw c.in-22.is c.sub.ensures
 
 pub returns-in-23 : goal.returns-in-23
 unfolding lookup integer_results int_carry
-returns-in-23 c = rw c.in-23.is (c.flag-in-23.ensures ∙ ap flag c.carry.ensures)
+returns-in-23 c = rw c.in-23.is (c.from-in-23.ensures ∙ flag_is _ ∙ ap flag c.carry.ensures)
 
 pub returns-in-24 : goal.returns-in-24
 unfolding lookup integer_results int_scarry
-returns-in-24 c = rw c.in-24.is (c.flag-in-24.ensures ∙ ap flag c.carry-in-24.ensures)
+returns-in-24 c = rw c.in-24.is (c.from-in-24.ensures ∙ flag_is _ ∙ ap flag c.carry-in-24.ensures)
 
 pub returns-in-25 : goal.returns-in-25
 unfolding lookup integer_results int_sborrow
-returns-in-25 c = rw c.in-25.is (c.flag-in-25.ensures ∙ ap flag c.borrow.ensures)
+returns-in-25 c = rw c.in-25.is (c.from-in-25.ensures ∙ flag_is _ ∙ ap flag c.borrow.ensures)
 
 pub returns-in-26 : goal.returns-in-26
 unfolding lookup integer_results sizes_agree agree sizes_of row_of opcodes
@@ -194,7 +194,7 @@ returns-in-38 c = rw c.in-38.is c.rem.ensures
 
 pub returns-in-39 : goal.returns-in-39
 unfolding lookup integer_results bool_negate truth
-returns-in-39 c = rw c.in-39.is (c.flag-in-39.ensures ∙ ap flag (sym (not-not _)))
+returns-in-39 c = rw c.in-39.is (c.from-in-39.ensures ∙ flag_is _ ∙ ap flag (sym (not-not _)))
 
 pub returns-in-40 : goal.returns-in-40
 unfolding lookup integer_results
