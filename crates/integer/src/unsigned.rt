@@ -2,7 +2,7 @@
 ghost use Rattle.std.specs.Prelude.{◌≡◌, ◌+◌, ◌*◌, ◌%◌, ◌^◌, ◌<◌, ◌≤◌, nat_le};
 ghost use Rattle.integer.specs.Operations.{piece, subpiece, popcount, int_add, int_sub, int_left, int_right, int_mult};
 
-use word::size::{largest, low};
+use word::size::{Size, largest, low};
 
 pub fn piece(size1: u64, a: u64, b: u64) -> u64
     requires { (size1 < 8) × (a * 256 ^ size1 + b < 2 ^ 64) }
@@ -39,9 +39,9 @@ pub fn sub(size: u64, a: u64, b: u64) -> u64
     low(size, a.wrapping_sub(b))
 }
 
-pub fn carry(size0: u64, a: u64, b: u64) -> bool
-    requires { (1 ≤ size0) × (size0 ≤ 8) × (b < 256 ^ size0) }
-    ensures { result ≡ nat_le (256 ^ size0) (a + b) }
+pub fn carry(size0: Size, a: u64, b: u64) -> bool
+    requires { b < 256 ^ size0.bytes }
+    ensures { result ≡ nat_le (256 ^ size0.bytes) (a + b) }
 {
     largest(size0) - b < a
 }

@@ -18,12 +18,18 @@ pub fn low(size: u64, x: u64) -> u64
     if size < 8 { x % modulus(size) } else { x }
 }
 
+// A size of 1 to 8 bytes.
+#[derive(Clone, Copy)]
+pub struct Size {
+    pub bytes: u64,
+    ghost in_range: { (1 ≤ bytes) × (bytes ≤ 8) },
+}
+
 // The largest number of a size: all ones.
-pub fn largest(size: u64) -> u64
-    requires { (1 ≤ size) × (size ≤ 8) }
-    ensures { result ≡ 256 ^ size - 1 }
+pub fn largest(size: Size) -> u64
+    ensures { result ≡ 256 ^ size.bytes - 1 }
 {
-    u64::MAX >> (64 - 8 * size)
+    u64::MAX >> (64 - 8 * size.bytes)
 }
 
 // A number is below 256^size; every word is, from 8 bytes on.

@@ -9,11 +9,11 @@ use Rattle.integer.proofs.signed.carry.Goals as goal
 pub is_negative-s-requires : goal.is_negative-s-requires
 unfolding int_add
 is_negative-s-requires c =
-    let less : c.add.result < 256 ^ c.args.size = rw c.add.ensures (mod-lt _ (size_pos _)) in
+    let less : c.add.result < 256 ^ c.args.size.bytes = rw c.add.ensures (mod-lt _ (size_pos _)) in
     search rules
 
 pub returns : goal.returns
 unfolding int_add xor
 returns c =
     rw (c.is_negative-s.ensures, c.is_negative.ensures, c.is_negative-2.ensures)
-    (sym (carry_by_signs _ _ _ c.requires.0 c.requires.2 c.requires.3 _ c.add.ensures))
+    (sym (carry_by_signs _ _ _ c.args.size.in_range.0 c.requires.0 c.requires.1 _ c.add.ensures))

@@ -6,7 +6,7 @@ use Rattle.integer.proofs.signed.rem.Goals as goal
 pub wrapping_rem-requires : goal.wrapping_rem-requires
 wrapping_rem-requires c =
     divides _ _ _ c.value_of-p.result c.value_of-q.result (record { sfits = c.value_of-p.type_inv }) (record { sfits = c.value_of-q.type_inv })
-    c.value_of-p.ensures c.value_of-q.ensures c.requires.3 c.requires.4
+    c.value_of-p.ensures c.value_of-q.ensures c.requires.1 c.requires.2
 
 pub returns : goal.returns
 returns c =
