@@ -1,19 +1,8 @@
 -- Laws of Booleans and of tests.
-use Rattle.std.proofs.Common.{◌≡◌, ℕ, ◌<◌, ◌≤◌, Bool, true, false, cond, not, ◌&&◌, ◌||◌, leb, refl, ◌∙◌, arith, lit<, leb-true}
-use mathlib.Core.Bool.{xor}
+use Rattle.std.proofs.Common.{◌≡◌, ℕ, ◌<◌, ◌≤◌, Bool, true, false, cond, ◌&&◌, ◌||◌, leb, refl, ◌∙◌, arith, lit<, leb-true}
 use mir.Val.{bool_byte}
 use Rattle.word.specs.Word.{is_size}
 use Rattle.integer.specs.Operations.{flag}
-
-pub xor_false : (t : Bool) → xor false t ≡ t
-unfolding xor
-xor_false true = refl
-xor_false false = refl
-
-pub xor_true_not : (t : Bool) → xor true (not t) ≡ t
-unfolding xor
-xor_true_not true = refl
-xor_true_not false = refl
 
 pub or_false : (t : Bool) → t || false ≡ t
 or_false true = refl
@@ -34,10 +23,6 @@ pub both : (s t : Bool) → s && t ≡ true → (s ≡ true) × (t ≡ true)
 both true true e = (refl, refl)
 both true false e = (refl, e)
 both false t e = (e, cc)
-
-pub not-not : (t : Bool) → not (not t) ≡ t
-not-not true = refl
-not-not false = refl
 
 -- neither side of a disjunction that fails
 pub neither : (s t : Bool) → s || t ≡ false → (s ≡ false) × (t ≡ false)

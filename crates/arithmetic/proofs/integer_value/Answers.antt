@@ -4,7 +4,8 @@ use mathlib.Core.Path.{refl, sym, ap, ◌∙◌}
 use native.Mathlib.Omega.{arith}
 use Rattle.word.specs.Sum.{tabulate}
 use Rattle.integer.proofs.Bits.{negate_is, xor_is, and_is, or_is}
-use Rattle.integer.proofs.Booleans.{flag_is, not-not}
+use Rattle.std.proofs.Math.Bool.{not-not}
+use Rattle.integer.proofs.Booleans.{flag_is}
 use Rattle.arithmetic.proofs.Lookup.{lookup_none}
 use Rattle.arithmetic.proofs.Agreement.{agreed, nonzero, halves_fit, size_kept, all_equal, inputs_equal}
 use Rattle.integer.proofs.Overflow.{opposite_is}
