@@ -7,8 +7,7 @@ use Rattle.secret_counts.proofs.move_counts.Goals as goal
 pub grow-requires : goal.grow-requires
 grow-requires c =
     let p = c.requires in
-    rw c.div_ceil-total.ensures
-    (total_inside _ _ _ _ _ _ c.args.counts.now p.0 p.1 p.2 p.3 p.4 p.5 c.gained-more.ensures)
+    omega (arith, c.div_ceil-total.ensures, total_inside _ _ _ _ _ _ c.args.counts.now p.0 p.1 p.2 p.3 p.4 p.5 c.gained-more.ensures)
 
 pub grow-requires-then-size-near : goal.grow-requires-then-size-near
 grow-requires-then-size-near c =
@@ -20,8 +19,8 @@ grow-requires-then-size-near c =
 pub returns-then-size-near : goal.returns-then-size-near
 returns-then-size-near c =
     let p = c.requires in
-    rw (c.grow-then-size-near.ensures, c.grow.ensures, c.div_ceil-total.ensures)
-    (near_moved _ _ _ _ _ _ c.args.counts.now p.0 p.1 p.2 p.3 p.4 p.5 c.gained-more.ensures c.if-size-near.true)
+    rw (c.grow-then-size-near.ensures, c.grow.ensures)
+    (rw (← c.div_ceil-total.ensures) at (near_moved _ _ _ _ _ _ c.args.counts.now p.0 p.1 p.2 p.3 p.4 p.5 c.gained-more.ensures c.if-size-near.true))
 
 pub grow-requires-else-size-near : goal.grow-requires-else-size-near
 grow-requires-else-size-near c =
@@ -41,6 +40,6 @@ grow-requires-else-size-near-2 c =
 pub returns-else-size-near : goal.returns-else-size-near
 returns-else-size-near c =
     let p = c.requires in
-    rw (c.grow-else-size-near-2.ensures, c.grow-else-size-near.ensures, c.grow.ensures, c.div_ceil-total.ensures)
-    (far_moved _ _ _ _ _ _ c.args.counts.now p.0 p.1 p.2 p.3 p.4 p.5 c.gained-more.ensures c.if-size-near.false _ _
-    (rw (pow_bits (64 - c.args.at % 64)) c.gained-far.ensures) (taken_off _ _ (c.gained-more.type_inv) (c.gained-far.type_inv)))
+    rw (c.grow-else-size-near-2.ensures, c.grow-else-size-near.ensures, c.grow.ensures)
+    (rw (← c.div_ceil-total.ensures) at (far_moved _ _ _ _ _ _ c.args.counts.now p.0 p.1 p.2 p.3 p.4 p.5 c.gained-more.ensures c.if-size-near.false _ _
+    (rw (pow_bits (64 - c.args.at % 64)) c.gained-far.ensures) (taken_off _ _ (c.gained-more.type_inv) (c.gained-far.type_inv))))
