@@ -1,4 +1,4 @@
-use mathlib.Core.Path.{ap, sym, ◌∙◌}
+use mathlib.Core.Path.{ap, sym}
 use Rattle.undrelvoa_faults.proofs.Passed.{report_passed}
 use Rattle.undrelvoa.specs.Buffers.{after_counting}
 use Rattle.undrelvoa.proofs.undrelvoa_count_secrets.Goals as goal

@@ -1,4 +1,4 @@
-use mathlib.Core.Path.{sym, ◌∙◌}
+use mathlib.Core.Path.{sym}
 use Rattle.undrelvoa_faults.proofs.Passed.{gather_passed}
 use Rattle.undrelvoa.proofs.undrelvoa_gather.Goals as goal
 

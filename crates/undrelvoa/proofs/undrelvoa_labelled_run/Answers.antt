@@ -1,4 +1,4 @@
-use mathlib.Core.Path.{ap, sym, ◌∙◌}
+use mathlib.Core.Path.{ap, sym}
 use Rattle.undrelvoa_faults.proofs.Passed.{lengths_passed}
 use Rattle.undrelvoa.specs.Buffers.{after, after_labelled}
 use Rattle.undrelvoa.proofs.undrelvoa_labelled_run.Goals as goal

@@ -1,4 +1,4 @@
-use mathlib.Core.Path.{sym, ◌∙◌}
+use mathlib.Core.Path.{sym}
 use Rattle.undrelvoa_faults.proofs.Passed.{scatter_passed}
 use Rattle.undrelvoa.proofs.undrelvoa_scatter.Goals as goal
 

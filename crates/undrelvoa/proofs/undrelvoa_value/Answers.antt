@@ -1,4 +1,4 @@
-use mathlib.Core.Path.{sym, ◌∙◌}
+use mathlib.Core.Path.{sym}
 use Rattle.undrelvoa_faults.proofs.Passed.{value_passed}
 use Rattle.undrelvoa.proofs.undrelvoa_value.Goals as goal
 
