@@ -29,8 +29,57 @@ use run_memory::labels::mark;
 use run_memory::space::reading;
 use run_taint::{labels_written, leaks_at, target_at};
 
-// A run from operation `start`, with the first `from` words of the log written before.
+// A run from operation `start`, with the first `from` words of the log written before. The buffers are lent on from locals: so the
+// compiler, which has the turns here, keeps pointers and lengths in registers, and need not read them behind a reference at each operation.
 pub fn run_any(
+    labelled: bool,
+    settings: Settings,
+    list: &[u64],
+    memory: &mut Spaces<&mut [u8]>,
+    labels: &mut Spaces<&mut [u8]>,
+    counts: &mut Spaces<&mut [u64]>,
+    log: &mut [u64],
+    start: usize,
+    from: usize,
+    budget: u64,
+) -> Report
+    requires { Valid (lengths_of (lent memory.old)) list.now × (start ≤ operation_count list.now) × (from ≤ length log.old)
+        × Fitting labelled (lent labels.old) (lent memory.old)
+        × (settings_in_range settings ≡ true)
+        × Countable labelled (lent labels.old) (lent counts.old) }
+    ensures same { SameBuffers memory.old memory.new × SameBuffers labels.old labels.new × SameBuffers counts.old counts.new }
+    ensures outcome { labelled_outcome result (lent memory.new) (lent labels.new) log.new
+        ≡ outcome_of log.old (run (program_of settings list.now) budget (position start from 0 log.old) (lent labels.old) (lent memory.old)) }
+    ensures counts { MovedSpaces low_bit (lent labels.old) (lent labels.new) (lent counts.old) (lent counts.new) }
+{
+    run_turns(
+        labelled,
+        settings,
+        list,
+        &mut Spaces {
+            unique: &mut *memory.unique,
+            register: &mut *memory.register,
+            ram: &mut *memory.ram,
+        },
+        &mut Spaces {
+            unique: &mut *labels.unique,
+            register: &mut *labels.register,
+            ram: &mut *labels.ram,
+        },
+        &mut Spaces {
+            unique: &mut *counts.unique,
+            register: &mut *counts.register,
+            ram: &mut *counts.ram,
+        },
+        log,
+        start,
+        from,
+        budget,
+    )
+}
+
+// The turns of a run.
+fn run_turns(
     labelled: bool,
     settings: Settings,
     list: &[u64],

@@ -1,10 +1,10 @@
--- `run_labelled::run_any` meets its contract.
+-- `run_labelled::run_turns` meets its contract.
 use native.Mathlib.Omega.{arith}
 use mathlib.Core.Path.{refl, sym, ◌∙◌}
 use Rattle.machine.proofs.Runs.{run_laws}
 use Rattle.run_memory.proofs.Spaces.{same_still}
 use Rattle.run_labelled.proofs.Turning.{may_turn, within, may_count, counts_on, at_ended, fewer, at_next}
-use Rattle.run_labelled.proofs.run_any.Goals as goal
+use Rattle.run_labelled.proofs.run_turns.Goals as goal
 
 pub step_at-done-requires : goal.step_at-done-requires
 step_at-done-requires c =

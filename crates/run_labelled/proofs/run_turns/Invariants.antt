@@ -1,4 +1,4 @@
--- `run_labelled::run_any` meets its contract.
+-- `run_labelled::run_turns` meets its contract.
 use Prim.Native.Nat.{◌-◌}
 use Rattle.secret_counts.specs.Moved.{low_bit}
 use Rattle.machine.specs.Program.{program_of}
@@ -6,7 +6,7 @@ use Rattle.machine.specs.Lent.{lent, SameBuffers}
 use Rattle.machine.specs.Run.{run}
 use Rattle.machine.specs.MovedCounts.{MovedSpaces}
 use Rattle.run_labelled.proofs.Turning.{Turning}
-use Rattle.run_labelled.proofs.run_any.Given as goal
+use Rattle.run_labelled.proofs.run_turns.Given as goal
 
 -- what is left to do from here is the whole run, and the counts moved with the labels
 abbrev pub invariant-loop-settings : goal.invariant-loop-settings
