@@ -9,7 +9,7 @@ use Rattle.integer.specs.Integers.{signed, wrap, negative, with_sign, quotient, 
 use Rattle.integer.specs.Operations.{int_sdiv, int_srem}
 use Rattle.std.specs.Int.{int_wrapping_div}
 use Rattle.word.proofs.Powers.{flipped_low}
-use Rattle.integer.proofs.TwosComplement.{signed_low, signed_high}
+use Rattle.integer.proofs.TwosComplement.{signed_low, signed_high, cut}
 
 -- the language's division and remainder are those of the definitions
 quotient_is : (p q : ℤ) → quot_z p q ≡ quotient p q
@@ -64,13 +64,10 @@ wrap_bits s n hs h = by (ltb n 9223372036854775808) refl
         let k : 2 ^ 64 - 1 - (2 ^ 64 - suc n) ≡ n = omega arith in
         rw e (sym (flipped_low (2 ^ 64 - suc n) s hs (omega arith)) ∙ ap (λ (x : ℕ). x % 256 ^ s) k)
 
--- and so is a number of at most 64 bits and a sign
+-- and so is an integer, read from its 64 bits
 wrap_word : (s : ℕ) (z : ℤ) → s ≤ 8 → mag z < 2 ^ 64 → wrap s (to_z w64 (of_z w64 z)) ≡ wrap s z
-unfolding wrap
-wrap_word s (pos n) hs h = wrap_bits s n hs h
-wrap_word s (negsuc n) hs h =
-    let e : 2 ^ 64 - suc n ≡ 2 ^ 64 - 1 - n = omega arith in
-    wrap_bits s (2 ^ 64 - suc n) hs (omega arith) ∙ rw e (flipped_low n s hs h)
+wrap_word s (pos n) hs h = wrap_bits s n hs h ∙ cut s (pos n) hs h
+wrap_word s (negsuc n) hs h = wrap_bits s (2 ^ 64 - suc n) hs (omega arith) ∙ cut s (negsuc n) hs h
 
 bits_pos : (q : ℤ) → SFits w64 q → (q ≡ pos 0 → ⊥) → 0 < of_z w64 q
 bits_pos (pos zero) f n = absurd (n refl)

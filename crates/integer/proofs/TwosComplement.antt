@@ -1,20 +1,15 @@
 -- Two's complement values over the size, and the language's signed operations on them. `to_z w64` reads the bits of an i64 and
 -- `of_z w64` writes them; `SFits w64 z` says that an i64 holds z.
-use Rattle.std.proofs.Common.{◌≡◌, ℕ, zero, suc, ◌-◌, ◌*◌, ◌/◌, ◌%◌, ◌^◌, ◌<◌, ◌≤◌, true, false, T, ℤ, pos, negsuc, ◌-ℤ◌, nat_abs, sym, refl, ap, ◌∙◌, subst, ap₂, lt_of_le_of_lt, mod-lt, zero-add, arith, w64, Fits, SFits, to_z, of_z, ltb-true, le-ltb, lt-ltb}
-use lib.Signed.{mag, lt_z, non_neg, shr_z, mag_shr}
+use Rattle.std.proofs.Common.{ltb, ltb-false, Bool, add-zero, ◌+◌, mod-eq_of_lt, ◌≡◌, ℕ, suc, ◌-◌, ◌*◌, ◌%◌, ◌^◌, ◌<◌, ◌≤◌, true, false, ℤ, pos, negsuc, sym, refl, ap, ◌∙◌, subst, lt_of_le_of_lt, mod-lt, arith, w64, SFits, to_z, of_z, ltb-true, le-ltb, lt-ltb}
+use lib.Signed.{mag, lt_z, shr_z, mag_shr}
 use mir.ValLaws.{to_z_pos, to_z-of_z}
 use Rattle.integer.specs.Integers.{signed, wrap, negative}
-use Rattle.word.proofs.Powers.{size_pos, size_most}
+use Rattle.word.proofs.Powers.{size_pos, word_of, flipped_low}
+use native.Mathlib.Nat.{mul-lt-mul_of_pos_right, mul-le-mul_right}
+use lib.Pow.{pow_pos, high}
 use Rattle.integer.proofs.Whole.{sub_neg}
 
 -- ---- integers
-minus : (y : ℕ) → negsuc 0 -ℤ pos y ≡ negsuc y
-minus zero = refl
-minus (suc m) = ap (λ (k : ℕ). negsuc (suc k)) (zero-add m)
-
-flip : (n : ℕ) → negsuc 0 -ℤ negsuc n ≡ pos n
-flip n = rw (le-ltb (suc n) 1 (omega arith)) (ap pos (omega arith))
-
 below_zero : (z : ℤ) → lt_z z (pos 0) ≡ negative z
 unfolding negative
 below_zero (pos n) = le-ltb n 0 (omega arith)
@@ -37,75 +32,39 @@ wrap_lt s (negsuc n) = omega (arith, size_pos s)
 
 -- ---- a value and its bits
 
-module _ (s x top : ℕ) (hs : s ≤ 8) (hx : x < 256 ^ s) (et : top ≡ 256 ^ s - 1) where
-  pub value_low : x ≤ top / 2 → to_z w64 x ≡ signed s x
-  value_low h =
-      let m : 256 ^ s ≤ 2 ^ 64 = size_most s hs in
-      let a : x < 2 ^ 63 = omega arith in
-      to_z_pos w64 x a ∙ sym (signed_low s x (omega arith))
+-- shifted up to the i64's sign bit, and back
+pub shifted_back : (s x : ℕ) → s ≤ 8 → x < 256 ^ s → shr_z (to_z w64 (x * 2 ^ (64 - 8 * s) % 2 ^ 64)) (2 ^ (64 - 8 * s)) ≡ signed s x
+shifted_back s x hs hx = by (ltb (2 * x) (256 ^ s)) refl
+  where
+    k : ℕ
+    k = 64 - 8 * s
 
-  high_small : top / 2 < x → top - x < 2 ^ 63
-  high_small h = let m : 256 ^ s ≤ 2 ^ 64 = size_most s hs in omega arith
+    positive : 0 < 2 ^ k
+    positive = pow_pos k
 
-  made : top / 2 < x → negsuc 0 -ℤ to_z w64 (top - x) ≡ negsuc (top - x)
-  made h = ap (λ (z : ℤ). negsuc 0 -ℤ z) (to_z_pos w64 (top - x) (high_small h)) ∙ minus (top - x)
+    up : x * 2 ^ k % 2 ^ 64 ≡ x * 2 ^ k
+    up = mod-eq_of_lt (omega (arith, word_of s hs, mul-lt-mul_of_pos_right hx positive))
 
-  pub high_fits : top / 2 < x → SFits w64 (negsuc 0 -ℤ to_z w64 (top - x))
-  high_fits h = subst (λ (z : ℤ). SFits w64 z) (sym (made h)) (record { sfits = high_small h })
+    by : (t : Bool) → ltb (2 * x) (256 ^ s) ≡ t → shr_z (to_z w64 (x * 2 ^ k % 2 ^ 64)) (2 ^ k) ≡ signed s x
+    by true e =
+        let low : 2 * x < 256 ^ s = ltb-true _ _ e in
+        let small : x * 2 ^ k < 2 ^ 63 = omega (arith, word_of s hs, mul-lt-mul_of_pos_right low positive) in
+        rw (up, to_z_pos w64 (x * 2 ^ k) small) (ap pos (rw add-zero at (high x k positive)) ∙ sym (signed_low s x low))
+    by false e =
+        let top : 256 ^ s ≤ 2 * x = ltb-false _ _ e in
+        let large : 2 ^ 63 ≤ x * 2 ^ k = omega (arith, word_of s hs, mul-le-mul_right (2 ^ k) top) in
+        let d : ℕ = 256 ^ s - 1 - x in
+        let split : 256 ^ s * 2 ^ k ≡ (d + 1 + x) * 2 ^ k = ap (λ (n : ℕ). n * 2 ^ k) (omega arith) in
+        let bits : 2 ^ 64 - suc (x * 2 ^ k) ≡ d * 2 ^ k + (2 ^ k - 1) = omega (arith, word_of s hs, split, positive) in
+        rw (up, le-ltb (x * 2 ^ k) 9223372036854775808 large) (ap negsuc (rw bits (high d k (omega (arith, positive)))) ∙ sym (signed_high s x top hx))
 
-  pub value_high : top / 2 < x → to_z w64 (of_z w64 (negsuc 0 -ℤ to_z w64 (top - x))) ≡ signed s x
-  value_high h = to_z-of_z w64 (negsuc 0 -ℤ to_z w64 (top - x)) (high_fits h) ∙ made h ∙ sym (signed_high s x (omega arith) hx ∙ ap (λ (n : ℕ). negsuc (n - x)) (sym et))
-
--- ---- a value back from an integer
-neg_of : (z : ℤ) → lt_z z (pos 0) ≡ true → z ≡ negsuc (mag z)
-neg_of (pos n) e = absurd (let h : n < 0 = ltb-true n 0 e in omega arith)
-neg_of (negsuc n) e = refl
-
-nonneg_of : (z : ℤ) → lt_z z (pos 0) ≡ false → z ≡ pos (mag z)
-nonneg_of (pos n) e = refl
-nonneg_of (negsuc n) e = cc
-
-module _ (z : ℤ) (fz : SFits w64 z) where
-  module _ (lt : lt_z (to_z w64 (of_z w64 z)) (pos 0) ≡ true) where
-    is_neg : z ≡ negsuc (mag z)
-    is_neg = neg_of z (ap (λ (k : ℤ). lt_z k (pos 0)) (sym (to_z-of_z w64 z fz)) ∙ lt)
-
-    flipped : negsuc 0 -ℤ to_z w64 (of_z w64 z) ≡ pos (mag z)
-    flipped = ap (λ (k : ℤ). negsuc 0 -ℤ k) (to_z-of_z w64 z fz ∙ is_neg) ∙ flip (mag z)
-
-    pub flip_fits : SFits w64 (negsuc 0 -ℤ to_z w64 (of_z w64 z))
-    flip_fits = subst (λ (k : ℤ). SFits w64 k) (sym flipped) (record { sfits = fz.sfits })
-
-    flip_read : to_z w64 (of_z w64 (negsuc 0 -ℤ to_z w64 (of_z w64 z))) ≡ pos (mag z)
-    flip_read = to_z-of_z w64 _ flip_fits ∙ flipped
-
-    pub flip_cast : T (non_neg (to_z w64 (of_z w64 (negsuc 0 -ℤ to_z w64 (of_z w64 z))))) × Fits w64 (nat_abs (to_z w64 (of_z w64 (negsuc 0 -ℤ to_z w64 (of_z w64 z)))))
-    flip_cast = subst (λ (k : ℤ). T (non_neg k) × Fits w64 (nat_abs k)) (sym flip_read) (tt, record { fits = let h : mag z < 2 ^ 63 = fz.sfits in omega arith })
-
-    pub wrap_neg : (s top r : ℕ) → top ≡ 256 ^ s - 1 → r ≡ nat_abs (to_z w64 (of_z w64 (negsuc 0 -ℤ to_z w64 (of_z w64 z)))) % 256 ^ s → top - r ≡ wrap s z
-    unfolding wrap
-    wrap_neg s top r et er = ap₂ (λ (a b : ℕ). a - b) et (er ∙ ap (λ (k : ℤ). nat_abs k % 256 ^ s) flip_read) ∙ ap (λ (k : ℤ). wrap s k) (sym is_neg)
-
-  module _ (ge : lt_z (to_z w64 (of_z w64 z)) (pos 0) ≡ false) where
-    read : to_z w64 (of_z w64 z) ≡ pos (mag z)
-    read = to_z-of_z w64 z fz ∙ nonneg_of z (ap (λ (k : ℤ). lt_z k (pos 0)) (sym (to_z-of_z w64 z fz)) ∙ ge)
-
-    pub pos_cast : T (non_neg (to_z w64 (of_z w64 z))) × Fits w64 (nat_abs (to_z w64 (of_z w64 z)))
-    pos_cast = subst (λ (k : ℤ). T (non_neg k) × Fits w64 (nat_abs k)) (sym read) (tt, record { fits = let h : mag z < 2 ^ 63 = fz.sfits in omega arith })
-
-    pub wrap_pos : (s r : ℕ) → r ≡ nat_abs (to_z w64 (of_z w64 z)) % 256 ^ s → r ≡ wrap s z
-    unfolding wrap
-    wrap_pos s r er = er ∙ ap (λ (k : ℤ). nat_abs k % 256 ^ s) read ∙ ap (λ (k : ℤ). wrap s k) (sym read ∙ to_z-of_z w64 z fz)
-
-pub cut_le : (s n r top : ℕ) → r ≡ n % 256 ^ s → top ≡ 256 ^ s - 1 → r ≤ top
-cut_le s n r top er et = omega (arith, mod-lt n (size_pos s), size_pos s)
+-- the bits of an integer, cut to a size
+pub cut : (s : ℕ) (z : ℤ) → s ≤ 8 → mag z < 2 ^ 64 → of_z w64 z % 256 ^ s ≡ wrap s z
+unfolding wrap
+cut s (pos n) hs h = refl
+cut s (negsuc n) hs h = let e : 2 ^ 64 - suc n ≡ 2 ^ 64 - 1 - n = omega arith in rw e (flipped_low n s hs h)
 
 -- ---- operations on values that an i64 holds
-
--- a relation of two values
-pub compared : {A : Type 0} (f : ℤ → ℤ → A) (x y p q : ℤ) → SFits w64 p → SFits w64 q → p ≡ x → q ≡ y
-    → f (to_z w64 (of_z w64 p)) (to_z w64 (of_z w64 q)) ≡ f x y
-compared f x y p q fp fq ep eq = ap₂ f (to_z-of_z w64 p fp ∙ ep) (to_z-of_z w64 q fq ∙ eq)
 
 -- the test of a value's sign
 pub sign_test : (z x : ℤ) → SFits w64 z → z ≡ x → lt_z (to_z w64 (of_z w64 z)) (pos 0) ≡ negative x

@@ -6,28 +6,20 @@ ghost use Rattle.integer.specs.Operations.{int_sext, int_sright, int_sdiv, int_s
 use super::unsigned::{add, sub};
 use word::size::{Size, largest, low};
 
-// The two's complement value of x.
+// The two's complement value of x: shifted up, its sign bit is that of the i64.
 fn value_of(size: Size, x: u64) -> i64
     requires { x < 256 ^ size.bytes }
     ensures { result ≡ signed size.bytes x }
 {
-    let top = largest(size);
-    if x <= top / 2 {
-        x as i64
-    } else {
-        -1 - ((top - x) as i64)
-    }
+    let unused = 64 - 8 * size.bytes;
+    (x << unused).cast_signed() >> unused
 }
 
 // The number of a size whose two's complement value is z, but for a multiple of 256^size.
 fn wrapped(size: Size, z: i64) -> u64
     ensures { result ≡ wrap size.bytes z }
 {
-    if z < 0 {
-        largest(size) - low(size.bytes, (-1 - z) as u64)
-    } else {
-        low(size.bytes, z as u64)
-    }
+    low(size.bytes, z.cast_unsigned())
 }
 
 pub fn less(size: Size, a: u64, b: u64) -> bool

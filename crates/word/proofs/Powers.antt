@@ -27,7 +27,7 @@ pub size_most : (s : ℕ) → s ≤ 8 → 256 ^ s ≤ 2 ^ 64
 size_most s h = size_mono s 8 h
 
 -- how many numbers of size s a word holds, times their number
-word_of : (s : ℕ) → s ≤ 8 → 2 ^ 64 ≡ 2 ^ (64 - 8 * s) * 256 ^ s
+pub word_of : (s : ℕ) → s ≤ 8 → 2 ^ 64 ≡ 2 ^ (64 - 8 * s) * 256 ^ s
 word_of s h =
     let e : 64 ≡ (64 - 8 * s) + 8 * s = omega arith in
     rw (pow_bits s) (ap (λ (k : ℕ). 2 ^ k) e ∙ pow-add 2 (64 - 8 * s) (8 * s))
