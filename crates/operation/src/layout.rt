@@ -29,13 +29,18 @@ pub struct Varnode {
     pub size: u64,
 }
 
-// How many bytes a pointer into each space counts as one.
-#[derive(Clone, Copy)]
-pub struct Wordsizes {
-    pub unique: u64,
-    pub register: u64,
-    pub ram: u64,
+// One thing for each address space with bytes: its length, its wordsize, its buffer.
+#[derive(Clone, Copy, PartialEq, Eq)]
+pub struct Spaces<T> {
+    pub unique: T,
+    pub register: T,
+    pub ram: T,
 }
+
+pub type Lengths = Spaces<u64>;
+
+// How many bytes a pointer into each space counts as one.
+pub type Wordsizes = Spaces<u64>;
 
 // Byte order, 0 little or 1 big, address size and wordsizes.
 #[derive(Clone, Copy)]
@@ -43,14 +48,6 @@ pub struct Settings {
     pub order: u64,
     pub address_size: u64,
     pub wordsizes: Wordsizes,
-}
-
-// The lengths of the three spaces with bytes.
-#[derive(Clone, Copy)]
-pub struct Lengths {
-    pub unique: u64,
-    pub register: u64,
-    pub ram: u64,
 }
 
 // One of three numbers, by the number of the space that it is for; 0 for any other space. Register stands first for speed

@@ -1,6 +1,6 @@
 -- A varnode in the space n, 2 to 4, and a varnode in none of them.
 use Prim.Native.Nat.{ℕ, zero, suc, ◌+◌, ◌≤◌, ◌<◌}
-use mathlib.Core.Path.{◌≡◌, refl, sym, subst}
+use mathlib.Core.Path.{◌≡◌, refl, sym, subst, ◌∙◌}
 use mathlib.Core.Logic.{◌⊎◌, inl, inr, ⊎_elim}
 use mathlib.Core.Bool.{Bool, true, false, cond}
 use mathlib.Core.List.{List, ◌++◌, append_assoc}
@@ -13,10 +13,13 @@ use Rattle.word.specs.Sum.{sum, tabulate}
 use Rattle.word.specs.Word.{Bytes, part, value_of}
 use Rattle.word.proofs.Laws.{part_length}
 use Rattle.word.proofs.Stores.{entries}
+use Rattle.std.specs.Borrow.{MutBor}
+use Rattle.operation.specs.declared.layout.Spaces.{Spaces}
 use Rattle.operation.specs.declared.layout.Settings.{Settings}
 use Rattle.operation.specs.declared.layout.Varnode.{Varnode}
 use Rattle.machine.specs.Program.{big_endian}
-use Rattle.machine.specs.Memory.{Memory, spaces, OfBytes, space_of, bytes_at, value_at, with_space, written}
+use Rattle.machine.specs.Lent.{SameBuffer, SameBuffers, lent}
+use Rattle.machine.specs.Memory.{Memory, spaces, OfBytes, lengths_of, space_of, bytes_at, value_at, with_space, written}
 use Rattle.machine.proofs.Cases.{either}
 use Rattle.machine.proofs.Conditions.{each_space}
 use Rattle.operation.specs.Layout.{absent}
@@ -76,6 +79,31 @@ module _ (m : Memory) (v : Varnode) (not2 : v.space ≡ 2 → ⊥) (not3 : v.spa
   pub written_elsewhere : (bs : List ℕ) → written m v bs ≡ m
   unfolding written with_space
   written_elsewhere bs = rw (ne_eqb v.space 2 not2, ne_eqb v.space 3 not3, ne_eqb v.space 4 not4)
+
+-- ---- the same buffers, by way of others
+
+pub same_none : {a : Spaces (MutBor (List ℕ))} → SameBuffers a a
+same_none = record { unique = none; register = none; ram = none }
+  where
+    none : {a : MutBor (List ℕ)} → SameBuffer a a
+    none = record { reference = refl; size = refl }
+
+pub same_still : {a b c : Spaces (MutBor (List ℕ))} → SameBuffers a b → SameBuffers b c → SameBuffers a c
+same_still f g = record { unique = still f.unique g.unique; register = still f.register g.register; ram = still f.ram g.ram }
+  where
+    still : {a b c : MutBor (List ℕ)} → SameBuffer a b → SameBuffer b c → SameBuffer a c
+    still f g = record { reference = g.reference ∙ f.reference; size = g.size ∙ f.size }
+
+pub same_lengths : {a b : Spaces (MutBor (List ℕ))} → SameBuffers a b → lengths_of (lent b) ≡ lengths_of (lent a)
+unfolding lengths_of
+same_lengths f = rw (f.unique.size, f.register.size, f.ram.size) refl
+
+-- ---- the value in the byte order of the settings
+
+pub value_read : (settings : Settings) (m : Memory) (v : Varnode)
+    → cond (eqb v.space 1) v.offset (value_of (eqb settings.order 1) (bytes_at m v)) ≡ value_at settings m v
+unfolding value_at big_endian
+value_read settings m v = refl
 
 -- ---- three lent buffers
 
