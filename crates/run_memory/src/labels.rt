@@ -68,7 +68,8 @@ pub fn mark(
     }
 }
 
-// The one writer of labels, in one space: it moves the counts by the labels that change. `old` is the number that those make which are there.
+// The one writer of labels, in one space, compiled into each: it moves the counts by the labels that change. `old` is the number that those make which are there.
+#[inline(always)]
 fn relabel(labels: &mut [u8], counts: &mut [u64], at: usize, size: usize, old: u64, new: u64)
     requires { (1 ≤ size) × (size ≤ 8) × (at + size ≤ length labels.old) × (count_words (length labels.old) ≤ length counts.old)
         × (old ≡ value_of false (part labels.old at size)) × (new < 256 ^ size) }
