@@ -3,47 +3,70 @@ ghost use Rattle.std.specs.Prelude.{◌≡◌, ◌+◌, cond, eqb};
 ghost use Rattle.word.specs.Sum.{digit};
 ghost use Rattle.arithmetic.specs.Operands.{divides, sizes_agree};
 
-use super::opcodes::has_bit;
+use super::opcodes::*;
 use integer::boolean::{both, pick_test};
 
 // The sentences of rule 25, in the definition's order. COPY, INT_2COMP, INT_NEGATE and shifts: input0 = output.
-const SIZE_KEPT: u64 = 0b11_10001100_00000000_00000000_00000010;
+const SIZE_KEPT: u64 = 1 << COPY
+    | 1 << INT_2COMP
+    | 1 << INT_NEGATE
+    | 1 << INT_LEFT
+    | 1 << INT_RIGHT
+    | 1 << INT_SRIGHT;
 
 // Addition, subtraction, multiplication, divisions, remainders, INT_XOR, INT_AND, INT_OR: all three equal.
-const SIZES_EQUAL: u64 = 0b1111100_01110000_01100000_00000000_00000000;
+const SIZES_EQUAL: u64 = 1 << INT_ADD
+    | 1 << INT_SUB
+    | 1 << INT_XOR
+    | 1 << INT_AND
+    | 1 << INT_OR
+    | 1 << INT_MULT
+    | 1 << INT_DIV
+    | 1 << INT_REM
+    | 1 << INT_SDIV
+    | 1 << INT_SREM;
 
 // Comparisons and the three carries: inputs equal, output 1.
-const COMPARISONS: u64 = 0b11_10000111_11100000_00000000;
+const COMPARISONS: u64 = 1 << INT_EQUAL
+    | 1 << INT_NOTEQUAL
+    | 1 << INT_LESS
+    | 1 << INT_SLESS
+    | 1 << INT_LESSEQUAL
+    | 1 << INT_SLESSEQUAL
+    | 1 << INT_CARRY
+    | 1 << INT_SCARRY
+    | 1 << INT_SBORROW;
 
 // Extensions: output larger than input0.
-const EXTENSIONS: u64 = 0b11000_00000000_00000000;
+const EXTENSIONS: u64 = 1 << INT_ZEXT | 1 << INT_SEXT;
 
 // BOOL_XOR, BOOL_AND, BOOL_OR: all 1.
-const BOOLEANS: u64 = 0b111_00000000_00000000_00000000_00000000_00000000;
+const BOOLEANS: u64 = 1 << BOOL_XOR | 1 << BOOL_AND | 1 << BOOL_OR;
 
 // BOOL_NEGATE: both 1.
-const NEGATED: u64 = 0b10000000_00000000_00000000_00000000_00000000;
+const NEGATED: u64 = 1 << BOOL_NEGATE;
 
 // PIECE: inputs add up to output.
-const JOINED: u64 = 0b100_00000000;
+const JOINED: u64 = 1 << PIECE;
 
 // LOAD and STORE: the pointer has the address size.
-const POINTERS: u64 = 0b1100;
+const POINTERS: u64 = 1 << LOAD | 1 << STORE;
 
 // BRANCHIND, CALLIND, RETURN: input0 has the address size.
-const INDIRECT: u64 = 0b11_01000000;
+const INDIRECT: u64 = 1 << BRANCHIND | 1 << CALLIND | 1 << RETURN;
 
 // CBRANCH: the condition has size 1.
-const CONDITIONS: u64 = 0b100000;
+const CONDITIONS: u64 = 1 << CBRANCH;
 
 // BRANCH, CALL, SUBPIECE and POPCOUNT: free.
-const SIZES_FREE: u64 = 0b11000_10010000;
+const SIZES_FREE: u64 = 1 << BRANCH | 1 << CALL | 1 << SUBPIECE | 1 << POPCOUNT;
 
 // The operation divides by input1.
+#[tactic(auto, unfolding(crate::specs::Operands::divides))]
 pub fn is_division(opcode: u64) -> bool
     ensures { result ≡ divides opcode }
 {
-    both(35 <= opcode, opcode <= 38)
+    (INT_DIV <= opcode) & (opcode <= INT_SREM)
 }
 
 // Rule 25 SIZE, a line for each of its sentences, the last one first. The two that most operations fall under are left at

@@ -11,7 +11,7 @@ use lib.Seq.{sets, sets-eq, length-sets, length-take-le, take_at}
 use Rattle.integer.proofs.Booleans.{both}
 use Rattle.word.proofs.Sums.{tabulate-length}
 use Rattle.operation.specs.declared.layout.Settings.{Settings}
-use Rattle.operation.specs.declared.layout.Lengths.{Lengths}
+use Rattle.operation.specs.Spaces.{Lengths}
 use Rattle.operation.specs.Layout.{words_per_operation, operation_count}
 use Rattle.operation.specs.Rules.{length_of}
 use Rattle.case_frame.specs.Frames.{bytes_length, operation_length, frame_of, bytes_on, words_on}

@@ -8,7 +8,7 @@ use native.Mathlib.Omega.{arith}
 use lib.Dec.{eqb}
 use lib.ListN.{length, take, drop, set, replicate, length-replicate, get_or-replicate, length-drop}
 use lib.Seq.{sets, take-set-le, take-set-lt, drop-set-lt, drop-set-add, length-take-le, get_or-take, get_or-drop, ext_get_or}
-use Rattle.operation.specs.declared.layout.Lengths.{Lengths}
+use Rattle.operation.specs.Spaces.{Lengths}
 use Rattle.operation.specs.Rules.{length_of}
 use Rattle.machine.specs.Memory.{Memory, spaces, lengths_of, space_of, with_space}
 use Rattle.case_reader.specs.Limits.{most_case_bytes, spaces_room}

@@ -1,6 +1,6 @@
 -- How a case lies in the lent buffers: three spaces in one buffer, each with the room of the largest.
 use Rattle.std.specs.Prelude.{ℕ, ◌*◌, ◌≤◌, ◌≡◌, List, length, take, drop, get_or}
-use Rattle.operation.specs.declared.layout.Lengths.{Lengths}
+use Rattle.operation.specs.Spaces.{Lengths}
 use Rattle.operation.specs.Layout.{words_per_operation}
 use Rattle.machine.specs.Memory.{Memory, spaces}
 use Rattle.case_reader.specs.Limits.{most_case_operations, most_case_bytes, spaces_room, words_room}

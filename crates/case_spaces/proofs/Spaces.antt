@@ -5,7 +5,7 @@ use mathlib.Core.List.{List}
 use native.Mathlib.Omega.{arith}
 use lib.ListN.{length, take, replicate}
 use lib.Seq.{length-take-le}
-use Rattle.operation.specs.declared.layout.Lengths.{Lengths}
+use Rattle.operation.specs.Spaces.{Lengths}
 use Rattle.operation.specs.Layout.{words_per_operation}
 use Rattle.machine.specs.Memory.{Memory, spaces, lengths_of}
 use Rattle.machine.specs.Calls.{labelled_run}

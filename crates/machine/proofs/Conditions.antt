@@ -33,7 +33,7 @@ use lib.IntN.{pos}
 use Rattle.validation.specs.WellFormed.{WellFormed}
 use Rattle.validation.specs.Verdict.{lengths_in_range, verdict}
 use Rattle.validation.proofs.WellFormed.{verdict-zero}
-use Rattle.operation.specs.declared.layout.Lengths.{Lengths}
+use Rattle.operation.specs.Spaces.{Lengths}
 use Rattle.machine.proofs.Ranges.{in_range}
 use Rattle.machine.proofs.Budget.{Repeats, run_repeats, Ends, stepped_ends}
 use Rattle.machine.proofs.Plain.{none_secret}

@@ -14,7 +14,7 @@ use Rattle.integer.specs.Operations.{flag}
 use Rattle.integer.proofs.Booleans.{both}
 use Rattle.operation.specs.declared.layout.Settings.{Settings}
 use Rattle.operation.specs.declared.layout.Varnode.{Varnode}
-use Rattle.operation.specs.declared.layout.Lengths.{Lengths}
+use Rattle.operation.specs.Spaces.{Lengths}
 use Rattle.operation.specs.Layout.{operation_count}
 use Rattle.machine.specs.Program.{Program, big_endian}
 use Rattle.machine.specs.Memory.{Memory, lengths_of, space_of, with_space, bytes_at, written, ordered}

@@ -15,7 +15,7 @@ use Rattle.secret_counts.specs.Moved.{secret_weight, low_bit, Moved}
 use Rattle.secret_counts.specs.Laws.{Words64}
 use Rattle.secret_counts.proofs.Moves.{moved_none, moved_on, moved_told, moved_weight}
 use Rattle.secret_counts.proofs.Recounting.{changed_moved, count_laws}
-use Rattle.operation.specs.declared.layout.Lengths.{Lengths}
+use Rattle.operation.specs.Spaces.{Lengths}
 use Rattle.machine.specs.Memory.{Memory, spaces, lengths_of, space_of}
 use Rattle.machine.specs.Calls.{labels_in_range}
 use Rattle.machine.specs.Counts.{counts_after, counts_fit}

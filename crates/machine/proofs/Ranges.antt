@@ -8,7 +8,7 @@ use borrow.Author.Tests.{leb-true}
 use lib.Dec.{eqb, leb}
 use lib.ListN.{length}
 use Rattle.integer.proofs.Booleans.{both}
-use Rattle.operation.specs.declared.layout.Lengths.{Lengths}
+use Rattle.operation.specs.Spaces.{Lengths}
 use Rattle.operation.specs.Layout.{words_per_operation, operation_count}
 use Rattle.validation.specs.Verdict.{most_operations, most_bytes, lengths_in_range}
 use Rattle.machine.specs.Memory.{Memory, lengths_of, space_of}

@@ -8,7 +8,7 @@ use borrow.Author.Tests.{eqb-true, eqb-false, eq-eqb, le-ltb, ltb-false, not-tru
 use lib.Dec.{eqb, ltb}
 use Rattle.integer.proofs.Booleans.{both}
 use Rattle.operation.specs.declared.layout.Settings.{Settings}
-use Rattle.operation.specs.declared.layout.Lengths.{Lengths}
+use Rattle.operation.specs.Spaces.{Lengths}
 use Rattle.operation.specs.declared.report.Report.{Report}
 use Rattle.operation.specs.Layout.{operation_count, opcode_at, varnode_at}
 use Rattle.operation.specs.Rules.{breaks_head, breaks_shape_at, breaks_place, breaks_range, breaks_size, breaks_target}

@@ -8,7 +8,7 @@ use lib.ListN.{length, take, drop, length-append, length-drop}
 use lib.Seq.{take-append_seam, drop-append_seam, drop-drop}
 use lib.Dec.{eqb}
 use Rattle.operation.specs.declared.layout.Settings.{Settings}
-use Rattle.operation.specs.declared.layout.Lengths.{Lengths}
+use Rattle.operation.specs.Spaces.{Lengths}
 use Rattle.operation.specs.declared.report.Report.{Report}
 use Rattle.validation.specs.Verdict.{refusal_report}
 use Rattle.machine.specs.Program.{Program, program_of}

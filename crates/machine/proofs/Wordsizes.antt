@@ -12,7 +12,7 @@ use Rattle.integer.specs.Operations.{flag}
 use Rattle.arithmetic.specs.Opcodes.{opcodes, row_of, outputs, inputs, sizes_of, has_place, member}
 use Rattle.arithmetic.specs.Operands.{divides, agree, sizes_agree}
 use Rattle.operation.specs.declared.layout.Settings.{Settings}
-use Rattle.operation.specs.declared.layout.Lengths.{Lengths}
+use Rattle.operation.specs.Spaces.{Lengths}
 use Rattle.operation.specs.Layout.{all_one, wordsize_of, operation_count, word_at, head_byte, spare_at, opcode_at, descriptor_at, offset_at, described_by, varnode_at, absent}
 use Rattle.operation.specs.Rules.{breaks_head, describes_varnode, breaks_shape, breaks_shape_at, accesses, branches, jumps, names_space, is_destination, breaks_place, length_of}
 use Rattle.operation.specs.Rules.{beyond, breaks_range, breaks_size, relative_target, target_outside, breaks_target}

@@ -3,7 +3,7 @@ use Rattle.std.specs.Prelude.{ℕ, zero, suc, Bool, cond, not, ◌&&◌, List, [
 use Rattle.secret_counts.specs.Recount.{count_words, filled}
 use Rattle.secret_counts.specs.Changes.{counts_changed}
 use Rattle.operation.specs.declared.layout.Settings.{Settings}
-use Rattle.operation.specs.declared.layout.Lengths.{Lengths}
+use Rattle.operation.specs.Spaces.{Lengths}
 use Rattle.operation.specs.declared.report.Report.{Report}
 use Rattle.validation.specs.Verdict.{lengths_in_range, refusal_report}
 use Rattle.machine.specs.Program.{Program, program_of}

@@ -1,5 +1,6 @@
 pub mod Program
 pub mod Memory
+pub mod Lent
 pub mod ByteOrder
 pub mod Effect
 pub mod Run

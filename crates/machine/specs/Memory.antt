@@ -5,7 +5,7 @@ use Rattle.word.specs.Sum.{tabulate}
 use Rattle.word.specs.Word.{Bytes, part, significance, value_of, bytes_of}
 use Rattle.operation.specs.declared.layout.Varnode.{Varnode}
 use Rattle.operation.specs.declared.layout.Settings.{Settings}
-use Rattle.operation.specs.declared.layout.Lengths.{Lengths}
+use Rattle.operation.specs.Spaces.{Lengths}
 use Rattle.machine.specs.Program.{big_endian}
 
 -- The bytes of spaces 2 to 4; a set of labels has the same form, with a label for each byte.

@@ -2,7 +2,7 @@
 -- it does, whatever would come after it.
 use Rattle.std.specs.Prelude.{ℕ, ◌≤◌, ◌<◌, Bool, true, false, ◌&&◌, List, ◌≡◌}
 use Rattle.operation.specs.declared.layout.Settings.{Settings}
-use Rattle.operation.specs.declared.layout.Lengths.{Lengths}
+use Rattle.operation.specs.Spaces.{Lengths}
 use Rattle.operation.specs.Layout.{operation_count}
 use Rattle.validation.specs.declared.Malformed.{Malformed}
 use Rattle.validation.specs.Verdict.{settings_in_range, lengths_in_range, malformed, refusal_report}

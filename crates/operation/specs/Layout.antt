@@ -3,7 +3,7 @@ use Rattle.std.specs.Prelude.{ℕ, ◌+◌, ◌*◌, ◌/◌, ◌%◌, ◌^◌, 
 use Rattle.word.specs.Sum.{digit}
 use Rattle.arithmetic.specs.Opcodes.{most_inputs}
 use Rattle.operation.specs.declared.layout.Varnode.{Varnode}
-use Rattle.operation.specs.declared.layout.Wordsizes.{Wordsizes}
+use Rattle.operation.specs.Spaces.{Wordsizes}
 
 -- One of three numbers, by the number of the space that it is for: 2 unique, 3 register, 4 ram; 0 for any other.
 abbrev pub by_space : (space unique register ram : ℕ) → ℕ

@@ -1,3 +1,4 @@
+pub mod Spaces
 pub mod Layout
 pub mod Numbers
 pub mod Rules

@@ -7,7 +7,7 @@ use Rattle.integer.specs.Integers.{signed}
 use Rattle.arithmetic.specs.Opcodes.{last_opcode, has_place, member}
 use Rattle.arithmetic.specs.Operands.{sizes_agree}
 use Rattle.operation.specs.declared.layout.Varnode.{Varnode}
-use Rattle.operation.specs.declared.layout.Lengths.{Lengths}
+use Rattle.operation.specs.Spaces.{Lengths}
 use Rattle.operation.specs.Layout.{by_space, spare_at, opcode_at, descriptor_at, offset_at}
 
 -- ---- 21 HEAD: opcode not 1 to 42, or a spare head byte not zero.

@@ -12,7 +12,16 @@ pub const WORDS_PER_OPERATION: usize = MOST_INPUTS as usize + 2;
 // Bytes of the head that are used: the opcode, then the descriptor of the output and those of the inputs.
 const HEAD_BYTES: u64 = MOST_INPUTS as u64 + 2;
 
-// A number of bytes at an offset of an address space; in space 1 the offset is the value.
+// Numbers of the address spaces. A varnode of space 0 is absent, and there is no other number.
+pub const CONSTANT: u64 = 1;
+
+pub const UNIQUE: u64 = 2;
+
+pub const REGISTER: u64 = 3;
+
+pub const RAM: u64 = 4;
+
+// A number of bytes at an offset of an address space; of CONSTANT the offset is the value.
 #[derive(Clone, Copy)]
 pub struct Varnode {
     pub space: u64,
@@ -20,13 +29,18 @@ pub struct Varnode {
     pub size: u64,
 }
 
-// How many bytes a pointer into each space counts as one.
-#[derive(Clone, Copy)]
-pub struct Wordsizes {
-    pub unique: u64,
-    pub register: u64,
-    pub ram: u64,
+// One thing for each address space with bytes: its length, its wordsize, its buffer.
+#[derive(Clone, Copy, PartialEq, Eq)]
+pub struct Spaces<T> {
+    pub unique: T,
+    pub register: T,
+    pub ram: T,
 }
+
+pub type Lengths = Spaces<u64>;
+
+// How many bytes a pointer into each space counts as one.
+pub type Wordsizes = Spaces<u64>;
 
 // Byte order, 0 little or 1 big, address size and wordsizes.
 #[derive(Clone, Copy)]
@@ -36,23 +50,15 @@ pub struct Settings {
     pub wordsizes: Wordsizes,
 }
 
-// The lengths of the three spaces with bytes.
-#[derive(Clone, Copy)]
-pub struct Lengths {
-    pub unique: u64,
-    pub register: u64,
-    pub ram: u64,
-}
-
 // One of three numbers, by the number of the space that it is for; 0 for any other space. Register stands first for speed
 // (docs/DECISIONS.md).
 pub(crate) fn by_space(space: u64, unique: u64, register: u64, ram: u64) -> u64
     ensures { result ≡ by_space space unique register ram }
 {
     match space {
-        3 => register,
-        2 => unique,
-        4 => ram,
+        REGISTER => register,
+        UNIQUE => unique,
+        RAM => ram,
         _ => 0,
     }
 }

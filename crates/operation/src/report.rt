@@ -1,5 +1,35 @@
-// What a call answers: the papers' report.
+// What a call answers: the papers' report, and what its ending can be.
 ghost use Rattle.std.specs.Prelude.{◌≡◌};
+
+// Why a run ended.
+#[derive(Clone, Copy, PartialEq, Eq)]
+pub enum Ending {
+    End = 0,
+    Exit = 1,
+    Budget = 2,
+    Leak = 31,
+    Bounds = 32,
+    Zero = 33,
+    Log = 34,
+    LeakAhead = 35,
+}
+
+// Why nothing ran: the settings or the lent buffers, the rules of an operation from Head to Target, or the start. A call of the C
+// interface that computes one value may also name a divisor of zero.
+#[derive(Clone, Copy, PartialEq, Eq)]
+pub enum Refusal {
+    Setting = 10,
+    Length = 11,
+    Label = 12,
+    Head = 21,
+    Shape = 22,
+    Place = 23,
+    Range = 24,
+    Size = 25,
+    Target = 26,
+    Start = 27,
+    Zero = 33,
+}
 
 // Numbers of a report.
 pub const REPORT_NUMBERS: usize = 5;

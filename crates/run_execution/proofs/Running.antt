@@ -3,7 +3,7 @@ use Prim.Native.Nat.{ℕ, zero, suc, ◌+◌, ◌-◌, ◌≤◌, ◌<◌}
 use native.Mathlib.Nat.{sub-zero}
 use native.Mathlib.Numerals.{add-one}
 use native.Mathlib.Omega.{arith}
-use mathlib.Core.Path.{◌≡◌, refl, sym, ap, ◌∙◌}
+use mathlib.Core.Path.{◌≡◌, refl, sym, ap, subst, ◌∙◌}
 use mathlib.Core.Bool.{Bool, true, false, cond, ◌&&◌}
 use mathlib.Core.List.{List, [], ◌∷◌, ◌++◌, append-nil}
 use borrow.Author.Tests.{lt-ltb, le-ltb, leb-true, leb-false, eq-eqb, ne_eqb}
@@ -28,6 +28,14 @@ use Rattle.run_plan.proofs.Steps.{words_of, applied, step_plain}
 use Rattle.run_plan.proofs.Bounds.{next_within, target_writable, low_small}
 use Rattle.run_plan.proofs.Places.{valid_with, index_small}
 use Rattle.run_execution.specs.Loops.{position}
+
+-- ---- the plan
+
+-- a plan from slices that hold what the buffers hold
+pub planned_from : (program : Program) {held lent : Memory} (op : Operation) (i : ℕ) {p : Plan} → held ≡ lent
+    → p ≡ planned program held op i (value_at program.settings held op.input0) (operand1 program held op)
+    → p ≡ planned program lent op i (value_at program.settings lent op.input0) (operand1 program lent op)
+planned_from program op i {p} = subst (λ (m : Memory). p ≡ planned program m op i (value_at program.settings m op.input0) (operand1 program m op))
 
 -- ---- the log
 
@@ -109,7 +117,6 @@ pub record Going (program : Program) (budget start from : ℕ) (log₀ : List �
   pub index : i ≤ operation_count program.list
   pub spent : executed ≤ budget
   pub lengths : lengths_of m ≡ lengths_of m₀
-  pub bytes : OfBytes m
   pub logs : Log log₀ log k
   pub same : run program (budget - executed) (position i k executed log) unlabelled m ≡ run program budget (position start from 0 log₀) unlabelled m₀
 
@@ -142,7 +149,7 @@ module _ (program : Program) (budget start from : ℕ) (log₀ : List ℕ) (m₀
       let h : i ≤ operation_count program.list = g.index in
       finally 2 0 (run_budget program (budget - executed) (position i k executed log) unlabelled m (omega arith) (lt-ltb i (operation_count program.list) (omega arith)))
 
-  module _ (more : i ≡ operation_count program.list → ⊥) (left : executed ≡ budget → ⊥) where
+  module _ (more : i ≡ operation_count program.list → ⊥) (left : executed ≡ budget → ⊥) (bytes : OfBytes m) where
     pub before_end : i < operation_count program.list
     before_end = let h : i ≤ operation_count program.list = g.index in omega arith
 
@@ -166,7 +173,7 @@ module _ (program : Program) (budget start from : ℕ) (log₀ : List ℕ) (m₀
       run_step : run program (budget - executed) (position i k executed log) unlabelled m
           ≡ continued (run program (budget - (executed + 1))) (applied program p (position i k executed log) unlabelled unlabelled m)
       unfolding run position
-      run_step = rw (fuel, step_plain program (position i k executed log) m g.words g.bytes still before_end, ← ep) refl
+      run_step = rw (fuel, step_plain program (position i k executed log) m g.words bytes still before_end, ← ep) refl
 
       pub at_stop : 1 < p.stop → Finally (plain_outcome (record { ending = p.stop; index = i; executed = executed; logged = k; value = 0 }) m log)
       unfolding applied continued
@@ -208,17 +215,16 @@ module _ (program : Program) (budget start from : ℕ) (log₀ : List ℕ) (m₀
               ended_at log₀ log' k' logs_kept 1 p.value i (executed + 1) unlabelled m
               ∙ ap (outcome_of log₀) (sym (run_step ∙ rw (le-ltb 1 p.stop go, due_room, f, eq-eqb p.stop 1 e, moved_on i) refl) ∙ g.same)
 
-          pub at_next : (p.stop ≡ 1 → ⊥) → (m' : Memory) → m' ≡ written m p.target (bytes_of (big_endian program.settings) p.target.size p.value) → OfBytes m'
+          pub at_next : (p.stop ≡ 1 → ⊥) → (m' : Memory) → m' ≡ written m p.target (bytes_of (big_endian program.settings) p.target.size p.value)
               → Going program budget start from log₀ m₀ p.next (executed + 1) k' log' m'
           unfolding applied continued position
-          at_next e m' em b = record {
+          at_next e m' em = record {
             settings = g.settings;
             words = g.words;
             valid = g.valid;
-            index = rw ep (next_within program m i still before_end g.words g.bytes _ _);
+            index = rw ep (next_within program m i still before_end g.words bytes _ _);
             spent = let h : executed ≤ budget = g.spent in omega arith;
             lengths = rw em (written_lengths m p.target (bytes_of (big_endian program.settings) p.target.size p.value) ∙ g.lengths);
-            bytes = b;
             logs = logs_kept;
             same = sym went ∙ g.same;
           }
@@ -230,15 +236,14 @@ module _ (program : Program) (budget start from : ℕ) (log₀ : List ℕ) (m₀
 
 -- a loop begins with the whole run before it
 pub begun : (program : Program) (budget start from : ℕ) (log : List ℕ) (m : Memory) → settings_in_range program.settings ≡ true → Words program.list
-    → Valid (lengths_of m) program.list → start ≤ operation_count program.list → OfBytes m → from ≤ length log → Going program budget start from log m start 0 from log m
-begun program budget start from log m s words v h b l = record {
+    → Valid (lengths_of m) program.list → start ≤ operation_count program.list → from ≤ length log → Going program budget start from log m start 0 from log m
+begun program budget start from log m s words v h l = record {
   settings = s;
   words = words;
   valid = v;
   index = h;
   spent = omega arith;
   lengths = refl;
-  bytes = b;
   logs = record { place = l; long = refl; rest = refl };
   same = rw sub-zero refl;
 }

@@ -5,15 +5,17 @@ ghost use Rattle.std.specs.Prelude.{◌≡◌, true, cond, ◌+◌, ◌≤◌, �
 ghost use Rattle.operation.specs.Layout.{operation_count};
 ghost use Rattle.validation.specs.Verdict.{most_operations, most_bytes, settings_in_range};
 ghost use Rattle.machine.specs.Program.{program_of};
-ghost use Rattle.machine.specs.Memory.{spaces, lengths_of};
+ghost use Rattle.machine.specs.Memory.{lengths_of};
+ghost use Rattle.machine.specs.Lent.{lent, SameBuffers};
 ghost use Rattle.machine.specs.Run.{log_word, run};
 ghost use Rattle.machine.specs.Calls.{unlabelled, outcome_of, plain_outcome};
 ghost use Rattle.run_plan.specs.Valid.{Valid};
 ghost use Rattle.run_execution.specs.Loops.{position};
 
 use integer::boolean::both;
-use operation::layout::{Settings, operation_count};
+use operation::layout::{Settings, Spaces, operation_count};
 use operation::report::{Report, run_report};
+use run_memory::space::reading;
 use run_memory::varnode::write;
 use run_plan::plan_at;
 
@@ -21,20 +23,20 @@ use run_plan::plan_at;
 pub fn run_from(
     settings: Settings,
     list: &[u64],
-    unique: &mut [u8],
-    register: &mut [u8],
-    ram: &mut [u8],
+    memory: &mut Spaces<&mut [u8]>,
     log: &mut [u64],
     start: usize,
     from: usize,
     budget: u64,
 ) -> Report
-    requires { Valid (lengths_of (spaces unique.old register.old ram.old)) list.now × (start ≤ operation_count list.now) × (from ≤ length log.old)
+    requires { Valid (lengths_of (lent memory.old)) list.now × (start ≤ operation_count list.now) × (from ≤ length log.old)
         × (settings_in_range settings ≡ true) }
-    ensures { plain_outcome result (spaces unique.new register.new ram.new) log.new
+    ensures same { SameBuffers memory.old memory.new }
+    ensures outcome { plain_outcome result (lent memory.new) log.new
         ≡ outcome_of log.old (run (program_of settings list.now) budget (position start from 0 log.old) unlabelled
-        (spaces unique.old register.old ram.old)) }
+        (lent memory.old)) }
 {
+    let big = settings.order == 1;
     let count = operation_count(list);
     let mut i = start;
     let mut k = from;
@@ -46,7 +48,7 @@ pub fn run_from(
         if executed == budget {
             return run_report(2, i, executed, k, 0);
         }
-        let p = plan_at(settings, list, unique, register, ram, i);
+        let p = plan_at(settings, list, reading(memory), i);
         if 1 < p.stop {
             return run_report(p.stop, i, executed, k, 0);
         }
@@ -59,7 +61,7 @@ pub fn run_from(
             return run_report(1, i, executed, k, p.value);
         }
         let target = p.target;
-        write(settings, unique, register, ram, target, p.value);
+        write(big, memory, target, p.value);
         i = p.next;
     }
 }

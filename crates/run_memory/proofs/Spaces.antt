@@ -1,6 +1,6 @@
 -- A varnode in the space n, 2 to 4, and a varnode in none of them.
 use Prim.Native.Nat.{ℕ, zero, suc, ◌+◌, ◌≤◌, ◌<◌}
-use mathlib.Core.Path.{◌≡◌, refl, sym, subst}
+use mathlib.Core.Path.{◌≡◌, refl, sym, subst, ◌∙◌}
 use mathlib.Core.Logic.{◌⊎◌, inl, inr, ⊎_elim}
 use mathlib.Core.Bool.{Bool, true, false, cond}
 use mathlib.Core.List.{List, ◌++◌, append_assoc}
@@ -13,9 +13,12 @@ use Rattle.word.specs.Sum.{sum, tabulate}
 use Rattle.word.specs.Word.{Bytes, part, value_of}
 use Rattle.word.proofs.Laws.{part_length}
 use Rattle.word.proofs.Stores.{entries}
+use Rattle.std.specs.Borrow.{MutBor}
+use Rattle.operation.specs.declared.layout.Spaces.{Spaces}
 use Rattle.operation.specs.declared.layout.Settings.{Settings}
 use Rattle.operation.specs.declared.layout.Varnode.{Varnode}
 use Rattle.machine.specs.Program.{big_endian}
+use Rattle.machine.specs.Lent.{SameBuffers}
 use Rattle.machine.specs.Memory.{Memory, spaces, OfBytes, space_of, bytes_at, value_at, with_space, written}
 use Rattle.machine.proofs.Cases.{either}
 use Rattle.machine.proofs.Conditions.{each_space}
@@ -76,6 +79,18 @@ module _ (m : Memory) (v : Varnode) (not2 : v.space ≡ 2 → ⊥) (not3 : v.spa
   pub written_elsewhere : (bs : List ℕ) → written m v bs ≡ m
   unfolding written with_space
   written_elsewhere bs = rw (ne_eqb v.space 2 not2, ne_eqb v.space 3 not3, ne_eqb v.space 4 not4)
+
+-- ---- the same buffers, by way of others
+
+pub same_still : {a b c : Spaces (MutBor (List ℕ))} → SameBuffers a b → SameBuffers b c → SameBuffers a c
+same_still f g = record { unique = g.unique ∙ f.unique; register = g.register ∙ f.register; ram = g.ram ∙ f.ram }
+
+-- ---- the value in the byte order of the settings
+
+pub value_read : (settings : Settings) (m : Memory) (v : Varnode)
+    → cond (eqb v.space 1) v.offset (value_of (eqb settings.order 1) (bytes_at m v)) ≡ value_at settings m v
+unfolding value_at big_endian
+value_read settings m v = refl
 
 -- ---- three lent buffers
 

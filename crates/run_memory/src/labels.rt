@@ -5,107 +5,65 @@ ghost use Rattle.word.specs.Sum.{digit};
 ghost use Rattle.word.specs.Word.{part, significance, value_of, bytes_of};
 ghost use Rattle.secret_counts.specs.Recount.{count_words};
 ghost use Rattle.secret_counts.specs.Moved.{low_bit, Moved};
-ghost use Rattle.machine.specs.Memory.{spaces, lengths_of, bytes_at};
+ghost use Rattle.machine.specs.Memory.{lengths_of, bytes_at};
+ghost use Rattle.machine.specs.Lent.{held, lent, SameBuffers};
 ghost use Rattle.machine.specs.Counts.{counts_fit};
 ghost use Rattle.machine.specs.Conditions.{has_secret};
 ghost use Rattle.run_memory.specs.Placed.{Placed};
 ghost use Rattle.run_memory.specs.Marked.{Marked};
 
-use super::space::space_of;
-use operation::layout::Varnode;
+use super::space::{reading, space_of};
+use operation::layout::{RAM, REGISTER, Spaces, UNIQUE, Varnode};
 use secret_counts::move_counts;
 use word::bytes::{gather, scatter};
 use word::size::low;
 
 // The number that the labels of a varnode make in little order, whatever the byte order is: the first in memory counts least. Those of a constant
 // are 0.
-pub fn labels_at<'a>(unique: &'a [u8], register: &'a [u8], ram: &'a [u8], v: Varnode) -> u64
-    requires { Placed (spaces unique.now register.now ram.now) v }
-    ensures { result ≡ value_of false (bytes_at (spaces unique.now register.now ram.now) v) }
+pub fn labels_at(labels: Spaces<&[u8]>, v: Varnode) -> u64
+    requires { Placed (held labels) v }
+    ensures { result ≡ value_of false (bytes_at (held labels.entry) v) }
 {
-    if v.space < 2 {
+    if v.space < UNIQUE {
         return 0;
     }
-    let labels = space_of(unique, register, ram, v.space);
-    let at = v.offset as usize;
-    let size = v.size as usize;
-    gather(false, labels, at, size)
+    let bytes = space_of(labels, v.space);
+    gather(false, bytes, v.offset as usize, v.size as usize)
 }
 
 // A byte of a varnode is secret: the number that its labels make is not 0.
-pub fn has_secret<'a>(unique: &'a [u8], register: &'a [u8], ram: &'a [u8], v: Varnode) -> bool
-    requires { Placed (spaces unique.now register.now ram.now) v }
-    ensures { result ≡ has_secret (spaces unique.now register.now ram.now) v }
+pub fn has_secret(labels: Spaces<&[u8]>, v: Varnode) -> bool
+    requires { Placed (held labels) v }
+    ensures { result ≡ has_secret (held labels.entry) v }
 {
-    labels_at(unique, register, ram, v) != 0
+    labels_at(labels, v) != 0
 }
 
 // Writes labels to a varnode, as the number that they make in little order, and moves the counts; to an absent one, nothing. Most operations write
-// the labels that are there, so that is looked at first. The run marks at one place, and the undoing has a copy of its own (`mark_back`): a function with
-// one caller is inlined there, whatever its size.
+// the labels that are there, so that is looked at first. It is compiled into its two callers, the run and the undoing.
+#[inline(always)]
 pub fn mark(
-    unique: &mut [u8],
-    register: &mut [u8],
-    ram: &mut [u8],
-    unique_counts: &mut [u64],
-    register_counts: &mut [u64],
-    ram_counts: &mut [u64],
+    labels: &mut Spaces<&mut [u8]>,
+    counts: &mut Spaces<&mut [u64]>,
     v: Varnode,
-    labels: u64,
+    word: u64,
 )
-    requires { Placed (spaces unique.old register.old ram.old) v
-        × (counts_fit (lengths_of (spaces unique.old register.old ram.old)) (lengths_of (spaces unique_counts.old register_counts.old ram_counts.old)) ≡ true) }
-    ensures { Marked (spaces unique.old register.old ram.old)
-        (spaces unique_counts.old register_counts.old ram_counts.old) v labels
-        (spaces unique.new register.new ram.new)
-        (spaces unique_counts.new register_counts.new ram_counts.new) }
+    requires placed { Placed (lent labels.old) v }
+    requires counts { counts_fit (lengths_of (lent labels.old)) (lengths_of (lent counts.old)) ≡ true }
+    ensures same { SameBuffers labels.old labels.new × SameBuffers counts.old counts.new }
+    ensures marked { Marked (lent labels.old) (lent counts.old) v word (lent labels.new) (lent counts.new) }
 {
-    let old = labels_at(unique, register, ram, v);
-    let new = low(v.size, labels);
+    let old = labels_at(reading(labels), v);
+    let new = low(v.size, word);
     if old == new {
         return;
     }
-    let space = v.space;
     let at = v.offset as usize;
     let size = v.size as usize;
-    match space {
-        4 => relabel(ram, ram_counts, at, size, old, new),
-        3 => relabel(register, register_counts, at, size, old, new),
-        2 => relabel(unique, unique_counts, at, size, old, new),
-        _ => {}
-    }
-}
-
-// As mark: the labels that an undo gives back.
-pub fn mark_back(
-    unique: &mut [u8],
-    register: &mut [u8],
-    ram: &mut [u8],
-    unique_counts: &mut [u64],
-    register_counts: &mut [u64],
-    ram_counts: &mut [u64],
-    v: Varnode,
-    labels: u64,
-)
-    requires { Placed (spaces unique.old register.old ram.old) v
-        × (counts_fit (lengths_of (spaces unique.old register.old ram.old)) (lengths_of (spaces unique_counts.old register_counts.old ram_counts.old)) ≡ true) }
-    ensures { Marked (spaces unique.old register.old ram.old)
-        (spaces unique_counts.old register_counts.old ram_counts.old) v labels
-        (spaces unique.new register.new ram.new)
-        (spaces unique_counts.new register_counts.new ram_counts.new) }
-{
-    let old = labels_at(unique, register, ram, v);
-    let new = low(v.size, labels);
-    if old == new {
-        return;
-    }
-    let space = v.space;
-    let at = v.offset as usize;
-    let size = v.size as usize;
-    match space {
-        4 => relabel(ram, ram_counts, at, size, old, new),
-        3 => relabel(register, register_counts, at, size, old, new),
-        2 => relabel(unique, unique_counts, at, size, old, new),
+    match v.space {
+        RAM => relabel(labels.ram, counts.ram, at, size, old, new),
+        REGISTER => relabel(labels.register, counts.register, at, size, old, new),
+        UNIQUE => relabel(labels.unique, counts.unique, at, size, old, new),
         _ => {}
     }
 }

@@ -1,33 +1,55 @@
-// The three lent spaces: their lengths, and one of them by its number.
+// The three lent spaces: their lengths, one of them by its number, and lent buffers as slices to read.
 ghost use Rattle.std.specs.Prelude.{◌≡◌, ◌≤◌};
-ghost use Rattle.machine.specs.Memory.{spaces, lengths_of, space_of};
+ghost use Rattle.machine.specs.Memory.{OfBytes, spaces, lengths_of, space_of};
+ghost use Rattle.machine.specs.Lent.{held, lent};
 
-use operation::layout::Lengths;
+use operation::layout::{Lengths, REGISTER, Spaces, UNIQUE};
 
 // The bytes of each space.
-pub fn lengths_of(unique: &[u8], register: &[u8], ram: &[u8]) -> Lengths
-    ensures { result ≡ lengths_of (spaces unique.now register.now ram.now) }
+pub fn lengths_of(memory: Spaces<&[u8]>) -> Lengths
+    ensures { result ≡ lengths_of (held memory.entry) }
 {
-    Lengths {
-        unique: unique.len() as u64,
-        register: register.len() as u64,
-        ram: ram.len() as u64,
+    Spaces {
+        unique: memory.unique.len() as u64,
+        register: memory.register.len() as u64,
+        ram: memory.ram.len() as u64,
     }
 }
 
 // The bytes of a space with bytes, by its number. Register stands first for speed (docs/DECISIONS.md).
-pub(crate) fn space_of<'a>(
-    unique: &'a [u8],
-    register: &'a [u8],
-    ram: &'a [u8],
-    space: u64,
-) -> &'a [u8]
+pub(crate) fn space_of<'a>(memory: Spaces<&'a [u8]>, space: u64) -> &'a [u8]
     requires { (2 ≤ space) × (space ≤ 4) }
-    ensures { result.now ≡ space_of (spaces unique.now register.now ram.now) space }
+    ensures { result.now ≡ space_of (held memory.entry) space }
 {
     match space {
-        3 => register,
-        2 => unique,
-        _ => ram,
+        REGISTER => memory.register,
+        UNIQUE => memory.unique,
+        _ => memory.ram,
     }
+}
+
+// Lent buffers, to be read.
+pub fn reading<'b>(buffers: &'b Spaces<&mut [u8]>) -> Spaces<&'b [u8]>
+    ensures same { held result ≡ lent buffers.now }
+    ensures bytes { OfBytes (lent buffers.now) }
+{
+    let memory: Spaces<&'b [u8]> = Spaces {
+        unique: buffers.unique,
+        register: buffers.register,
+        ram: buffers.ram,
+    };
+    are_bytes(memory);
+    memory
+}
+
+// Nothing is done when it runs: it tells a proof what the type of a slice says, where a struct holds slices.
+pub fn are_bytes(memory: Spaces<&[u8]>)
+    ensures { OfBytes (held memory.entry) }
+{
+    slices_are_bytes(memory.unique, memory.register, memory.ram)
+}
+
+fn slices_are_bytes(unique: &[u8], register: &[u8], ram: &[u8])
+    ensures { OfBytes (spaces unique.now register.now ram.now) }
+{
 }

@@ -7,7 +7,7 @@ use Rattle.arithmetic.specs.Opcodes.{most_inputs, opcodes, row_of, outputs, inpu
 use Rattle.arithmetic.specs.Operands.{sizes_agree}
 use Rattle.operation.specs.declared.layout.Varnode.{Varnode}
 use Rattle.operation.specs.declared.layout.Settings.{Settings}
-use Rattle.operation.specs.declared.layout.Lengths.{Lengths}
+use Rattle.operation.specs.Spaces.{Lengths}
 use Rattle.operation.specs.Layout.{wordsize_of, words_per_operation, operation_count, opcode_at, varnode_at, absent}
 use Rattle.operation.specs.Rules.{accesses, branches, names_space, breaks_place, length_of, breaks_size}
 use Rattle.arithmetic.proofs.Table.{data_shape}

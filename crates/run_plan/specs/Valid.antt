@@ -1,6 +1,6 @@
 -- What the loops need of a list, beside settings in range: the verdict on it is 0, for spaces of these lengths.
 use Rattle.std.specs.Prelude.{◌≡◌, ℕ, ◌<◌, true, List}
-use Rattle.operation.specs.declared.layout.Lengths.{Lengths}
+use Rattle.operation.specs.Spaces.{Lengths}
 use Rattle.operation.specs.Layout.{operation_count}
 use Rattle.validation.specs.Verdict.{lengths_in_range}
 use Rattle.validation.specs.WellFormed.{WellFormed}

@@ -6,20 +6,21 @@ ghost use Rattle.operation.specs.Layout.{wordsize_of, words_per_operation, opera
 ghost use Rattle.operation.specs.Rules.{accesses, branches};
 ghost use Rattle.validation.specs.Verdict.{most_operations, most_bytes, settings_in_range};
 ghost use Rattle.machine.specs.Program.{program_of};
-ghost use Rattle.machine.specs.Memory.{spaces, lengths_of, value_at};
+ghost use Rattle.machine.specs.Memory.{lengths_of, value_at};
+ghost use Rattle.machine.specs.Lent.{held};
 ghost use Rattle.machine.specs.Effect.{operation_at, byte_offset};
 ghost use Rattle.machine.specs.Conditions.{operand1};
 ghost use Rattle.run_plan.specs.Plans.{control, move_plan, branch_plan, data_plan, planned, Movable, Addressable, Branching, Computable};
 ghost use Rattle.run_plan.specs.Valid.{Valid};
 
-use arithmetic::opcodes::FIRST_INTEGER;
+use arithmetic::opcodes::{CBRANCH, FIRST_INTEGER, LOAD};
 use arithmetic::operands::is_division;
 use arithmetic::value;
 use integer::boolean::{both, flag, pick};
-use operation::layout::{Settings, Varnode, absent, opcode_at, varnode_at, wordsize_of};
+use operation::layout::{RAM, Settings, Spaces, Varnode, absent, opcode_at, varnode_at, wordsize_of};
 use operation::rules::{accesses, branches, jumps, length_of};
-use run_memory::space::lengths_of;
-use run_memory::varnode::{read_input0, read_input1, read_moved};
+use run_memory::space::{are_bytes, lengths_of};
+use run_memory::varnode::value_at;
 use std::num::wrapping_add_u64;
 use word::size::within;
 
@@ -70,13 +71,13 @@ fn branch_at(list: &[u64], i: usize, condition: u64) -> Plan
     requires { (words_per_operation * i + words_per_operation ≤ length list.now) × (i < most_operations) × Branching (operation_at list.now i) }
     ensures { result ≡ branch_plan (operation_at list.now i) i condition }
 {
-    let conditional = opcode_at(list, i) == 5;
+    let conditional = opcode_at(list, i) == CBRANCH;
     let input0 = varnode_at(list, i, 1);
     if both(conditional, condition == 0) {
         return control(0, i + 1, true, 0, 0);
     }
     let low = flag(conditional);
-    if input0.space == 4 {
+    if input0.space == RAM {
         return control(1, i, conditional, low, input0.offset);
     }
     let next = wrapping_add_u64(i as u64, input0.offset);
@@ -124,28 +125,27 @@ pub fn offset_in(settings: Settings, space: u64, length: u64, pointer: u64) -> u
 }
 
 // LOAD and STORE at a pointer: one read and one write, from or to the bytes at its byte offset.
-fn move_at<'a>(
+fn move_at(
     settings: Settings,
     list: &[u64],
-    unique: &'a [u8],
-    register: &'a [u8],
-    ram: &'a [u8],
+    memory: Spaces<&[u8]>,
     i: usize,
     pointer: u64,
 ) -> Plan
     requires { (words_per_operation * i + words_per_operation ≤ length list.now) × (i < most_operations)
-        × Movable (spaces unique.now register.now ram.now) (operation_at list.now i)
-        × Addressable settings (spaces unique.now register.now ram.now) (operation_at list.now i) }
-    ensures { result ≡ move_plan (program_of settings list.now) (spaces unique.now register.now ram.now)
+        × Movable (held memory) (operation_at list.now i)
+        × Addressable settings (held memory) (operation_at list.now i) }
+    ensures { result ≡ move_plan (program_of settings list.now) (held memory.entry)
         (operation_at list.now i) i (byte_offset settings (operation_at list.now i) pointer) }
 {
-    let loads = opcode_at(list, i) == 2;
+    let big = settings.order == 1;
+    let loads = opcode_at(list, i) == LOAD;
     let output = varnode_at(list, i, 0);
     let input0 = varnode_at(list, i, 1);
     let input2 = varnode_at(list, i, 3);
     let moved = choose(loads, output, input2);
     let space = input0.offset;
-    let lengths = lengths_of(unique, register, ram);
+    let lengths = lengths_of(memory);
     let length = length_of(lengths, space);
     let offset = offset_in(settings, space, length, pointer);
     if !within(offset, moved.size, length) {
@@ -157,39 +157,39 @@ fn move_at<'a>(
         size: moved.size,
     };
     let from = choose(loads, pointee, input2);
-    let x = read_moved(settings, unique, register, ram, from);
+    let x = value_at(big, memory, from);
     let to = choose(loads, output, pointee);
     writes(i, true, offset, to, x)
 }
 
 // The plan of operation i. Input1 is read for every operation: it is the pointer, the condition or the second operand, and 0 if absent.
-pub fn plan_at<'a>(
+pub fn plan_at(
     settings: Settings,
     list: &[u64],
-    unique: &'a [u8],
-    register: &'a [u8],
-    ram: &'a [u8],
+    memory: Spaces<&[u8]>,
     i: usize,
 ) -> Plan
-    requires { Valid (lengths_of (spaces unique.now register.now ram.now)) list.now × (i < operation_count list.now)
+    requires { Valid (lengths_of (held memory)) list.now × (i < operation_count list.now)
         × (settings_in_range settings ≡ true) }
-    ensures { result ≡ planned (program_of settings list.now) (spaces unique.now register.now ram.now)
+    ensures { result ≡ planned (program_of settings list.now) (held memory.entry)
         (operation_at list.now i) i
-        (value_at settings (spaces unique.now register.now ram.now) (operation_at list.now i).input0)
-        (operand1 (program_of settings list.now) (spaces unique.now register.now ram.now) (operation_at list.now i)) }
+        (value_at settings (held memory.entry) (operation_at list.now i).input0)
+        (operand1 (program_of settings list.now) (held memory.entry) (operation_at list.now i)) }
 {
+    are_bytes(memory);
+    let big = settings.order == 1;
     let opcode = opcode_at(list, i);
     let input1 = varnode_at(list, i, 2);
-    let b = read_input1(settings, unique, register, ram, input1);
+    let b = value_at(big, memory, input1);
     let class = class_of(opcode);
     if class == 1 {
-        return move_at(settings, list, unique, register, ram, i, b);
+        return move_at(settings, list, memory, i, b);
     }
     if class == 2 {
         return branch_at(list, i, b);
     }
     let input0 = varnode_at(list, i, 1);
-    let a = read_input0(settings, unique, register, ram, input0);
+    let a = value_at(big, memory, input0);
     data_at(list, i, a, b)
 }
 

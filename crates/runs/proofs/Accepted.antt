@@ -12,7 +12,7 @@ use Rattle.integer.proofs.Booleans.{both}
 use Rattle.secret_counts.specs.Recount.{count_words, filled}
 use Rattle.secret_counts.specs.Moved.{low_bit, secret_weight}
 use Rattle.operation.specs.declared.layout.Settings.{Settings}
-use Rattle.operation.specs.declared.layout.Lengths.{Lengths}
+use Rattle.operation.specs.Spaces.{Lengths}
 use Rattle.operation.specs.declared.report.Report.{Report}
 use Rattle.operation.specs.Layout.{operation_count}
 use Rattle.validation.specs.Verdict.{settings_in_range, lengths_in_range, refusal_report, verdict}

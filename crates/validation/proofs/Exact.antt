@@ -12,7 +12,7 @@ use Rattle.word.specs.Word.{is_size}
 use Rattle.arithmetic.specs.Opcodes.{most_inputs, last_opcode, has_place}
 use Rattle.operation.specs.declared.layout.Varnode.{Varnode}
 use Rattle.operation.specs.declared.layout.Settings.{Settings}
-use Rattle.operation.specs.declared.layout.Lengths.{Lengths}
+use Rattle.operation.specs.Spaces.{Lengths}
 use Rattle.operation.specs.declared.report.Report.{Report}
 use Rattle.operation.specs.Layout.{operation_count, spare_at, opcode_at, absent, descriptor_at, offset_at, described_by, varnode_at}
 use Rattle.operation.specs.Rules.{branches, breaks_head, breaks_shape, breaks_shape_at, describes_varnode, breaks_place, length_of, beyond, breaks_range, relative_target, target_outside, breaks_target}

@@ -10,7 +10,7 @@ use Rattle.word.specs.Word.{is_size}
 use Rattle.integer.proofs.Booleans.{both, or_true}
 use Rattle.arithmetic.specs.Opcodes.{most_inputs}
 use Rattle.operation.specs.declared.layout.Varnode.{Varnode}
-use Rattle.operation.specs.declared.layout.Lengths.{Lengths}
+use Rattle.operation.specs.Spaces.{Lengths}
 use Rattle.operation.specs.declared.decode.Decoded.TheVariants.{Accepted, Fault}
 use Rattle.operation.specs.Layout.{operation_count, opcode_at, described_by, varnode_at}
 use Rattle.operation.specs.Rules.{breaks_head, describes_varnode, breaks_shape, breaks_shape_at, breaks_place, breaks_range}

@@ -11,7 +11,7 @@ use lib.Signed.{lt_z}
 use Rattle.integer.proofs.Booleans.{both, passed, neither}
 use Rattle.arithmetic.specs.Opcodes.{most_inputs, last_opcode, has_place}
 use Rattle.operation.specs.declared.layout.Varnode.{Varnode}
-use Rattle.operation.specs.declared.layout.Lengths.{Lengths}
+use Rattle.operation.specs.Spaces.{Lengths}
 use Rattle.operation.specs.Layout.{operation_count, spare_at, opcode_at, absent, descriptor_at, offset_at, described_by, varnode_at}
 use Rattle.operation.specs.Rules.{branches, breaks_head, breaks_shape_at, describes_varnode, breaks_place, length_of, beyond, breaks_range, breaks_size, relative_target, target_outside, breaks_target}
 use Rattle.validation.specs.Verdict.{settings_in_range, lengths_in_range, first_malformed, refusal_report, malformed, verdict, any_place, lowest_rule, size_or_target}

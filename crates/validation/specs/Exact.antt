@@ -2,7 +2,7 @@
 -- that operation is the first that is not well-formed, and that rule the lowest that it breaks.
 use Rattle.std.specs.Prelude.{ℕ, ◌<◌, Bool, true, false, cond, List, ◌≡◌, eqb}
 use Rattle.operation.specs.declared.layout.Settings.{Settings}
-use Rattle.operation.specs.declared.layout.Lengths.{Lengths}
+use Rattle.operation.specs.Spaces.{Lengths}
 use Rattle.operation.specs.Layout.{operation_count, opcode_at, varnode_at}
 use Rattle.operation.specs.Rules.{breaks_head, breaks_shape_at, breaks_place, breaks_range, breaks_size, breaks_target}
 use Rattle.validation.specs.Verdict.{settings_in_range, lengths_in_range, any_place, refusal_report, verdict}

@@ -2,9 +2,8 @@
 use Rattle.std.specs.Prelude.{ℕ, zero, suc, ◌+◌, ◌%◌, Bool, false, cond, not, ◌&&◌, ◌||◌, List, eqb, leb, length}
 use Rattle.word.specs.Word.{is_size}
 use Rattle.arithmetic.specs.Opcodes.{most_inputs}
-use Rattle.operation.specs.declared.layout.Wordsizes.{Wordsizes}
 use Rattle.operation.specs.declared.layout.Settings.{Settings}
-use Rattle.operation.specs.declared.layout.Lengths.{Lengths}
+use Rattle.operation.specs.Spaces.{Lengths, Wordsizes}
 use Rattle.validation.specs.declared.Malformed.{Malformed}
 use Rattle.operation.specs.declared.report.Report.{Report}
 use Rattle.operation.specs.Layout.{words_per_operation, operation_count, opcode_at, varnode_at}

@@ -2,7 +2,7 @@
 use Rattle.std.specs.Prelude.{ℕ, ◌+◌, ◌^◌, ◌≤◌, ◌<◌, true, false, List, ◌≡◌, pos}
 use Rattle.arithmetic.specs.Opcodes.{most_inputs, last_opcode, has_place}
 use Rattle.operation.specs.declared.layout.Settings.{Settings}
-use Rattle.operation.specs.declared.layout.Lengths.{Lengths}
+use Rattle.operation.specs.Spaces.{Lengths}
 use Rattle.operation.specs.Layout.{operation_count, spare_at, opcode_at, absent, varnode_at}
 use Rattle.operation.specs.Rules.{branches, breaks_place, length_of, breaks_size, relative_target}
 use Rattle.validation.specs.Verdict.{settings_in_range, lengths_in_range, verdict}

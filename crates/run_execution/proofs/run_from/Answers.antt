@@ -1,61 +1,63 @@
-use mathlib.Core.Path.{sym, ◌∙◌}
-use Rattle.run_memory.proofs.Spaces.{of_bytes}
-use Rattle.run_execution.proofs.Running.{begun, at_end, at_budget, at_stop, at_full, may_log, may_write, at_exit, at_next}
+use mathlib.Core.Path.{refl, sym, ◌∙◌}
+use Rattle.machine.specs.Program.{big_endian, program_of}
+use Rattle.run_memory.proofs.Spaces.{same_still}
+use Rattle.run_execution.proofs.Running.{planned_from, begun, at_end, at_budget, at_stop, at_full, may_log, may_write, at_exit, at_next}
 use Rattle.run_execution.proofs.run_from.Goals as goal
 
 pub loop-i-init : goal.loop-i-init
 loop-i-init c = (
   c.operation_count-count.ensures,
+  record { unique = refl; register = refl; ram = refl },
   begun _ _ _ _ _ _ c.requires.3 (λ j. (c.type_inv.list j).fits) c.requires.0 c.requires.1
-      (of_bytes _ _ _ (λ j. (c.type_inv.unique j).fits) (λ j. (c.type_inv.register j).fits)
-      (λ j. (c.type_inv.ram j).fits)) c.requires.2,
+      c.requires.2,
 )
 
-pub returns-then-i-count : goal.returns-then-i-count
-returns-then-i-count c =
-    rw c.run_report.ensures (at_end _ _ _ _ _ _ _ _ _ _ _ c.loop-i.invariant.1 (c.if-i-count.true ∙ c.loop-i.invariant.0))
+pub returns-then-i-count-clause-outcome : goal.returns-then-i-count-clause-outcome
+returns-then-i-count-clause-outcome c =
+    rw c.run_report.ensures (at_end _ _ _ _ _ _ _ _ _ _ _ c.loop-i.invariant.2 (c.if-i-count.true ∙ c.loop-i.invariant.0))
 
-pub returns-then-executed-budget : goal.returns-then-executed-budget
-returns-then-executed-budget c =
-    rw c.run_report-then-executed-budget.ensures (at_budget _ _ _ _ _ _ _ _ _ _ _ c.loop-i.invariant.1 (λ e. c.if-i-count.false (e ∙ sym c.loop-i.invariant.0)) c.if-executed-budget.true)
+pub returns-then-executed-budget-clause-outcome : goal.returns-then-executed-budget-clause-outcome
+returns-then-executed-budget-clause-outcome c =
+    rw c.run_report-then-executed-budget.ensures (at_budget _ _ _ _ _ _ _ _ _ _ _ c.loop-i.invariant.2 (λ e. c.if-i-count.false (e ∙ sym c.loop-i.invariant.0)) c.if-executed-budget.true)
 
-pub returns-then-p-gt1 : goal.returns-then-p-gt1
-returns-then-p-gt1 c =
+pub returns-then-p-gt1-clause-outcome : goal.returns-then-p-gt1-clause-outcome
+returns-then-p-gt1-clause-outcome c =
     rw c.run_report-then-p-gt1.ensures
-    (at_stop _ _ _ _ _ _ _ _ _ _ _ c.loop-i.invariant.1 (λ e. c.if-i-count.false (e ∙ sym c.loop-i.invariant.0))
-    c.if-executed-budget.false _ c.plan_at-p.ensures c.if-p-gt1.true)
+    (at_stop _ _ _ _ _ _ _ _ _ _ _ c.loop-i.invariant.2 (λ e. c.if-i-count.false (e ∙ sym c.loop-i.invariant.0))
+    c.if-executed-budget.false c.reading.ensures.bytes _ (planned_from (program_of c.args.settings _) _ _ c.reading.ensures.same c.plan_at-p.ensures) c.if-p-gt1.true)
 
-pub returns-then-both : goal.returns-then-both
-returns-then-both c =
+pub returns-then-both-clause-outcome : goal.returns-then-both-clause-outcome
+returns-then-both-clause-outcome c =
     rw c.run_report-then-both.ensures
-    (at_full _ _ _ _ _ _ _ _ _ _ _ c.loop-i.invariant.1 (λ e. c.if-i-count.false (e ∙ sym c.loop-i.invariant.0))
-    c.if-executed-budget.false _ c.plan_at-p.ensures
+    (at_full _ _ _ _ _ _ _ _ _ _ _ c.loop-i.invariant.2 (λ e. c.if-i-count.false (e ∙ sym c.loop-i.invariant.0))
+    c.if-executed-budget.false c.reading.ensures.bytes _ (planned_from (program_of c.args.settings _) _ _ c.reading.ensures.same c.plan_at-p.ensures)
     c.if-p-gt1.false _ c.both.ensures c.if-both.true)
 
 pub log_word-requires : goal.log_word-requires
 log_word-requires c =
-    may_log _ _ _ _ _ _ _ _ _ _ _ c.loop-i.invariant.1 (λ e. c.if-i-count.false (e ∙ sym c.loop-i.invariant.0)) c.if-executed-budget.false _ c.plan_at-p.ensures
+    may_log _ _ _ _ _ _ _ _ _ _ _ c.loop-i.invariant.2 (λ e. c.if-i-count.false (e ∙ sym c.loop-i.invariant.0)) c.if-executed-budget.false c.reading.ensures.bytes _ (planned_from (program_of c.args.settings _) _ _ c.reading.ensures.same c.plan_at-p.ensures)
 
-pub returns-then-p-eq1 : goal.returns-then-p-eq1
-returns-then-p-eq1 c =
+pub returns-then-p-eq1-clause-outcome : goal.returns-then-p-eq1-clause-outcome
+returns-then-p-eq1-clause-outcome c =
     rw c.run_report-then-p-eq1.ensures
-    (at_exit _ _ _ _ _ _ _ _ _ _ _ c.loop-i.invariant.1 (λ e. c.if-i-count.false (e ∙ sym c.loop-i.invariant.0))
-    c.if-executed-budget.false _ c.plan_at-p.ensures
+    (at_exit _ _ _ _ _ _ _ _ _ _ _ c.loop-i.invariant.2 (λ e. c.if-i-count.false (e ∙ sym c.loop-i.invariant.0))
+    c.if-executed-budget.false c.reading.ensures.bytes _ (planned_from (program_of c.args.settings _) _ _ c.reading.ensures.same c.plan_at-p.ensures)
     c.if-p-gt1.false _ c.both.ensures
     c.if-both.false _ _ _ c.log_word.ensures c.push-k.ensures.0 c.push-k.ensures.1 c.if-p-eq1.true)
 
 pub write-requires : goal.write-requires
 write-requires c =
-    may_write _ _ _ _ _ _ _ _ _ _ _ c.loop-i.invariant.1 (λ e. c.if-i-count.false (e ∙ sym c.loop-i.invariant.0))
-    c.if-executed-budget.false _ c.plan_at-p.ensures
+    may_write _ _ _ _ _ _ _ _ _ _ _ c.loop-i.invariant.2 (λ e. c.if-i-count.false (e ∙ sym c.loop-i.invariant.0))
+    c.if-executed-budget.false c.reading.ensures.bytes _ (planned_from (program_of c.args.settings _) _ _ c.reading.ensures.same c.plan_at-p.ensures)
 
 pub loop-i-preserved : goal.loop-i-preserved
+unfolding big_endian
 loop-i-preserved c = (
   c.loop-i.invariant.0,
-  at_next _ _ _ _ _ _ _ _ _ _ _ c.loop-i.invariant.1 (λ e. c.if-i-count.false (e ∙ sym c.loop-i.invariant.0))
-      c.if-executed-budget.false _ c.plan_at-p.ensures
+  same_still c.loop-i.invariant.1 c.write.ensures.same,
+  at_next _ _ _ _ _ _ _ _ _ _ _ c.loop-i.invariant.2 (λ e. c.if-i-count.false (e ∙ sym c.loop-i.invariant.0))
+      c.if-executed-budget.false c.reading.ensures.bytes _ (planned_from (program_of c.args.settings _) _ _ c.reading.ensures.same c.plan_at-p.ensures)
       c.if-p-gt1.false _ c.both.ensures
       c.if-both.false _ _ _ c.log_word.ensures c.push-k.ensures.0 c.push-k.ensures.1
-      c.if-p-eq1.false _ c.write.ensures
-      (of_bytes _ _ _ (λ j. (c.type_inv.unique j).fits) (λ j. (c.type_inv.register j).fits) (λ j. (c.type_inv.ram j).fits)),
+      c.if-p-eq1.false _ c.write.ensures.written,
 )

@@ -3,7 +3,7 @@ use Prim.Native.Nat.{◌-◌}
 use mathlib.Core.Path.{◌≡◌}
 use Rattle.operation.specs.Layout.{operation_count}
 use Rattle.machine.specs.Program.{program_of}
-use Rattle.machine.specs.Memory.{spaces}
+use Rattle.machine.specs.Lent.{lent, SameBuffers}
 use Rattle.run_execution.proofs.Running.{Going}
 use Rattle.run_execution.proofs.run_from.Given as goal
 
@@ -11,8 +11,9 @@ use Rattle.run_execution.proofs.run_from.Given as goal
 abbrev pub invariant-loop-i : goal.invariant-loop-i
 invariant-loop-i l =
     (l.count ≡ operation_count l.list)
+    × SameBuffers l.initial.memory l.memory
     × Going (program_of l.settings l.list) l.budget l.start l.from l.initial.log
-    (spaces l.initial.unique l.initial.register l.initial.ram) l.i l.executed l.k l.log (spaces l.unique l.register l.ram)
+    (lent l.initial.memory) l.i l.executed l.k l.log (lent l.memory)
 
 abbrev pub decreases-loop-i : goal.decreases-loop-i
 decreases-loop-i l = l.budget - l.executed

@@ -9,14 +9,14 @@ returns-then-both c =
     code_skips _ _ _ _ _ c.opcode_at-conditional.ensures c.varnode_at-input0.ensures c.requires.2 _ c.both.ensures _
     c.if-both.true c.control.ensures
 
-pub returns-then-input0-eq4 : goal.returns-then-input0-eq4
+pub returns-then-input0-eq-RAM : goal.returns-then-input0-eq-RAM
 unfolding operation_at
-returns-then-input0-eq4 c =
+returns-then-input0-eq-RAM c =
     code_leaves _ _ _ _ _ c.opcode_at-conditional.ensures c.varnode_at-input0.ensures c.requires.2 _ c.both.ensures _
-    _ c.flag-low.ensures c.if-both.false c.if-input0-eq4.true c.control-then-input0-eq4.ensures
+    _ c.flag-low.ensures c.if-both.false c.if-input0-eq-RAM.true c.control-then-input0-eq-RAM.ensures
 
 pub returns : goal.returns
 unfolding operation_at
 returns c =
     code_follows _ _ _ _ _ c.opcode_at-conditional.ensures c.varnode_at-input0.ensures c.requires.2 _ c.both.ensures _
-    _ c.flag-low.ensures c.if-both.false c.if-input0-eq4.false _ c.wrapping_add_u64-next.ensures.value c.control-2.ensures
+    _ c.flag-low.ensures c.if-both.false c.if-input0-eq-RAM.false _ c.wrapping_add_u64-next.ensures.value c.control-2.ensures

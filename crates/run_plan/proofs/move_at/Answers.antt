@@ -1,10 +1,11 @@
 -- `run_plan::move_at` meets its contract.
 use mathlib.Core.Bool.{not}
 use Rattle.std.proofs.Common.{sym, ap, ◌∙◌}
-use Rattle.operation.specs.declared.layout.Lengths.{Lengths}
+use Rattle.operation.specs.Spaces.{Lengths}
 use Rattle.operation.specs.Rules.{length_of}
 use Rattle.machine.specs.Program.{program_of}
 use Rattle.machine.specs.Effect.{operation_at}
+use Rattle.run_memory.proofs.Spaces.{value_read}
 use Rattle.run_plan.specs.Plans.{move_plan}
 use Rattle.run_plan.proofs.Planning.{code_outside, may_read, code_moves}
 use Rattle.run_plan.proofs.Pointers.{may_multiply, product_fits, product_is}
@@ -28,9 +29,9 @@ returns-then-not-within c =
     input0 c.varnode_at-input2.ensures c.choose-moved.ensures c.requires.2 _ extent _ (c.within.ensures ∙ fits)
     (program_of c.args.settings _) _ _ (ap not c.if-not-within.true) c.control.ensures
 
-pub read_moved-x-requires : goal.read_moved-x-requires
+pub value_at-x-requires : goal.value_at-x-requires
 unfolding operation_at
-read_moved-x-requires c =
+value_at-x-requires c =
     let extent = c.length_of-length.ensures ∙ ap (λ (l : Lengths). length_of l c.varnode_at-input0.result.offset) c.lengths_of-lengths.ensures in
     may_read _ _ _ _ _ _ _ _ c.opcode_at-loads.ensures c.varnode_at-output.ensures
     c.varnode_at-input0.ensures c.varnode_at-input2.ensures c.choose-moved.ensures c.requires.2
@@ -48,5 +49,5 @@ returns c =
     code_moves _ _ _ _ _ _ _ _ c.opcode_at-loads.ensures c.varnode_at-output.ensures
     input0 c.varnode_at-input2.ensures c.choose-moved.ensures c.requires.2 _ extent _ c.within.ensures
     (ap not c.if-not-within.false) _ c.choose-from.ensures program _ _ _
-    c.read_moved-x.ensures _ c.choose-to.ensures c.writes.ensures
+    (c.value_at-x.ensures ∙ value_read _ _ _) _ c.choose-to.ensures c.writes.ensures
     ∙ ap (move_plan program _ _ _) is

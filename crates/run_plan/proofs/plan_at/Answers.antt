@@ -5,7 +5,7 @@ use Rattle.machine.specs.Program.{program_of}
 use Rattle.machine.specs.Memory.{value_at}
 use Rattle.machine.specs.Effect.{operation_at}
 use Rattle.machine.proofs.Conditions.{few_operations}
-use Rattle.run_memory.proofs.Spaces.{of_bytes}
+use Rattle.run_memory.proofs.Spaces.{value_read}
 use Rattle.run_plan.proofs.Places.{placed, movable, addressable, branching, computable, in_words, index_small}
 use Rattle.run_plan.proofs.Opcodes.{of_opcode}
 use Rattle.run_plan.proofs.Planning.{planned-access, planned_branch, planned_data}
@@ -22,8 +22,8 @@ varnode_at-input1-requires c =
     let pre = c.requires in
     (in_words _ _ pre.0 _ pre.1, omega arith)
 
-pub read_input1-b-requires : goal.read_input1-b-requires
-read_input1-b-requires c =
+pub value_at-b-requires : goal.value_at-b-requires
+value_at-b-requires c =
     let pre = c.requires in
     rw c.varnode_at-input1.ensures (placed _ _ _ _ (pre.0.operations _ pre.1) 2 (omega arith) (λ z. absurd (omega arith)))
 
@@ -41,15 +41,14 @@ pub returns-then-class-eq1 : goal.returns-then-class-eq1
 unfolding operation_at
 returns-then-class-eq1 c =
     let pre = c.requires in
-    let b = c.read_input1-b.ensures ∙ ap (value_at _ _) c.varnode_at-input1.ensures in
+    let b = c.value_at-b.ensures ∙ value_read _ _ _ ∙ ap (value_at _ _) c.varnode_at-input1.ensures in
     let m = movable _ _ _ _ (pre.0.operations _ pre.1) (of_opcode accesses c.opcode_at-opcode.ensures c.class_of-class.ensures.0 (eq-eqb _ 1 c.if-class-eq1.true)) in
     c.move_at.ensures ∙ planned-access (program_of _ _) _ _ _ _ _ b m
 
 pub branch_at-requires : goal.branch_at-requires
 branch_at-requires c =
     let pre = c.requires in
-    let bytes = of_bytes _ _ _ (λ k. (c.type_inv.unique k).fits) (λ k. (c.type_inv.register k).fits)
-    (λ k. (c.type_inv.ram k).fits) in
+    let bytes = c.are_bytes.ensures in
     let w = pre.0.operations _ pre.1 in
     let small = few_operations _ _ pre.0.in_range in
     let branch = of_opcode branches c.opcode_at-opcode.ensures c.class_of-class.ensures.1 (eq-eqb _ 2 c.if-class-eq2.true) in
@@ -59,12 +58,11 @@ pub returns-then-class-eq2 : goal.returns-then-class-eq2
 unfolding operation_at
 returns-then-class-eq2 c =
     let pre = c.requires in
-    let bytes = of_bytes _ _ _ (λ k. (c.type_inv.unique k).fits) (λ k. (c.type_inv.register k).fits)
-    (λ k. (c.type_inv.ram k).fits) in
+    let bytes = c.are_bytes.ensures in
     let w = pre.0.operations _ pre.1 in
     let small = few_operations _ _ pre.0.in_range in
     let branch = of_opcode branches c.opcode_at-opcode.ensures c.class_of-class.ensures.1 (eq-eqb _ 2 c.if-class-eq2.true) in
-    let b = c.read_input1-b.ensures ∙ ap (value_at _ _) c.varnode_at-input1.ensures in
+    let b = c.value_at-b.ensures ∙ value_read _ _ _ ∙ ap (value_at _ _) c.varnode_at-input1.ensures in
     c.branch_at.ensures
     ∙ planned_branch (program_of _ _) _ _ _ _ _ b (branching _ _ _ _ w c.args.settings (λ k. (c.type_inv.list k).fits) bytes small branch)
 
@@ -73,8 +71,8 @@ varnode_at-input0-requires c =
     let pre = c.requires in
     (in_words _ _ pre.0 _ pre.1, omega arith)
 
-pub read_input0-a-requires : goal.read_input0-a-requires
-read_input0-a-requires c =
+pub value_at-a-requires : goal.value_at-a-requires
+value_at-a-requires c =
     let pre = c.requires in
     let straight = of_opcode branches c.opcode_at-opcode.ensures c.class_of-class.ensures.1 (ne_eqb _ 2 c.if-class-eq2.false) in
     rw c.varnode_at-input0.ensures (placed _ _ _ _ (pre.0.operations _ pre.1) 1 (omega arith) (λ z. straight))
@@ -82,20 +80,19 @@ read_input0-a-requires c =
 pub data_at-requires : goal.data_at-requires
 data_at-requires c =
     let pre = c.requires in
-    let bytes = of_bytes _ _ _ (λ k. (c.type_inv.unique k).fits) (λ k. (c.type_inv.register k).fits)
-    (λ k. (c.type_inv.ram k).fits) in
+    let bytes = c.are_bytes.ensures in
     let w = pre.0.operations _ pre.1 in
     let small = few_operations _ _ pre.0.in_range in
     let access = of_opcode accesses c.opcode_at-opcode.ensures c.class_of-class.ensures.0 (ne_eqb _ 1 c.if-class-eq1.false) in
     let branch = of_opcode branches c.opcode_at-opcode.ensures c.class_of-class.ensures.1 (ne_eqb _ 2 c.if-class-eq2.false) in
-    let a = c.read_input0-a.ensures ∙ ap (value_at _ _) c.varnode_at-input0.ensures in
-    let b = c.read_input1-b.ensures ∙ ap (value_at _ _) c.varnode_at-input1.ensures in
+    let a = c.value_at-a.ensures ∙ value_read c.args.settings _ _ ∙ ap (value_at _ _) c.varnode_at-input0.ensures in
+    let b = c.value_at-b.ensures ∙ value_read c.args.settings _ _ ∙ ap (value_at _ _) c.varnode_at-input1.ensures in
     (in_words _ _ pre.0 _ pre.1, index_small _ _ pre.0 _ pre.1, computable _ _ _ _ w _ (λ k. (c.type_inv.list k).fits) bytes small access branch _ _ a b)
 
 pub returns : goal.returns
 unfolding operation_at
 returns c =
     let access = of_opcode accesses c.opcode_at-opcode.ensures c.class_of-class.ensures.0 (ne_eqb _ 1 c.if-class-eq1.false) in
-    let a = c.read_input0-a.ensures ∙ ap (value_at _ _) c.varnode_at-input0.ensures in
-    let b = c.read_input1-b.ensures ∙ ap (value_at _ _) c.varnode_at-input1.ensures in
+    let a = c.value_at-a.ensures ∙ value_read _ _ _ ∙ ap (value_at _ _) c.varnode_at-input0.ensures in
+    let b = c.value_at-b.ensures ∙ value_read _ _ _ ∙ ap (value_at _ _) c.varnode_at-input1.ensures in
     c.data_at.ensures ∙ rw a (planned_data (program_of _ _) _ _ _ _ _ b access)

@@ -4,10 +4,14 @@ use native.Mathlib.Omega.{arith}
 use Rattle.run_memory.proofs.Spaces.{number_gathered, number_elsewhere}
 use Rattle.run_memory.proofs.varnode.value_at.Goals as goal
 
-pub returns-then-v-lt2 : goal.returns-then-v-lt2
-returns-then-v-lt2 c =
+pub returns-then-v-lt-UNIQUE : goal.returns-then-v-lt-UNIQUE
+returns-then-v-lt-UNIQUE c =
     sym (number_elsewhere _ _ (λ e. omega arith) (λ e. omega arith) (λ e. omega arith) c.requires _)
 
-pub returns : goal.returns
-returns c =
-    c.gather.ensures ∙ number_gathered _ _ c.if-v-lt2.false _ c.space_of-bytes.ensures _
+pub returns-then-big : goal.returns-then-big
+returns-then-big c =
+    rw c.if-big.true (c.gather.ensures ∙ number_gathered _ _ c.if-v-lt-UNIQUE.false _ c.space_of-bytes.ensures _)
+
+pub returns-else-big : goal.returns-else-big
+returns-else-big c =
+    rw c.if-big.false (c.gather-else-big.ensures ∙ number_gathered _ _ c.if-v-lt-UNIQUE.false _ c.space_of-bytes.ensures _)
