@@ -19,7 +19,7 @@ use case_reader::limits::{LOG_WORDS, MOST_CASE_BYTES};
 use operation::layout::{RAM, REGISTER, Spaces, UNIQUE};
 use operation::report::Report;
 
-// All lines of a space, and of the three spaces.
+// All lines of a space, and of the three spaces. By hand: the value of a constant calls no div_ceil.
 const SPACE_TEXT_ROOM: usize = DUMP_LENGTH
     * ((MOST_CASE_BYTES + (BYTES_PER_LINE - 1)) / BYTES_PER_LINE);
 

@@ -1,7 +1,7 @@
 use Rattle.std.proofs.Common.{◌≡◌, length, get_or, arith, rules}
 use Rattle.case_printing.specs.Text.{word_line, word_line_length, log_text}
 use Rattle.case_printing.proofs.Appending.{grown, concatenated_none, concatenated_then}
-use Rattle.case_printing.proofs.Lengths.{length_word, length_log, length-concatenated}
+use Rattle.case_printing.proofs.Lengths.{length_word, length_log, concatenated_most}
 use Rattle.case_printing.proofs.text.put_log.Goals as goal
 
 pub loop-word-init : goal.loop-word-init
@@ -11,7 +11,7 @@ pub put_word-requires : goal.put_word-requires
 put_word-requires g c =
     let words = c.args.words.now in
     let l = c.loop-word in
-    let so_far = length-concatenated word_line_length l.word-index (λ i. word_line (get_or words i 0)) (λ i. length_word (get_or words i 0)) in
+    let so_far = concatenated_most word_line_length l.word-index (λ i. word_line (get_or words i 0)) (λ i. omega (arith, length_word (get_or words i 0))) in
     (search rules, omega (arith, grown l.invariant, so_far))
 
 pub loop-word-preserved : goal.loop-word-preserved
