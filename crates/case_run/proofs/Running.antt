@@ -18,7 +18,7 @@ use Rattle.machine.proofs.Recounts.{counts_of_labelled_runs}
 use Rattle.case_printing.specs.Appended.{Appended}
 use Rattle.case_printing.specs.Outcome.{outcome_text}
 use Rattle.case_reader.specs.Limits.{most_case_bytes, log_words, start_index, counts_room}
-use Rattle.case_reader.specs.Buffers.{Fits}
+use Rattle.case_reader.specs.Limits.{Fits}
 
 -- counts of zeros that have room for the longest space, of each space
 abbrev pub no_counts : Memory
@@ -52,5 +52,5 @@ logged_in settings list budget labels m {report} {m'} {labels'} {log'} e =
     (omega (arith, few, room, length-replicate {A = ℕ} log_words 0), omega (arith, room))
 
 -- what is printed of an outcome is printed of its equal
-pub printed_as : {o o' : Outcome} {before after : List ℕ} {n : ℕ} → o ≡ o' → Appended 0 before (outcome_text o) n after → Appended 0 before (outcome_text o') n after
-printed_as {o} {o'} {before} {after} {n} e p = subst (λ (x : Outcome). Appended 0 before (outcome_text x) n after) e p
+pub printed_as : {o o' : Outcome} {before after : List ℕ} → o ≡ o' → Appended before (outcome_text o) after → Appended before (outcome_text o') after
+printed_as {o} {o'} {before} {after} e p = subst (λ (x : Outcome). Appended before (outcome_text x) after) e p

@@ -1,44 +1,52 @@
 // The labelled run of a case, and what is printed of it.
 #![tactic(auto)]
 
-ghost use Rattle.std.specs.Prelude.{◌≤◌, length, replicate};
-ghost use Rattle.machine.specs.Memory.{spaces, lengths_of};
+ghost use Rattle.std.specs.Prelude.{◌+◌, ◌≤◌, replicate};
+ghost use Rattle.machine.specs.Memory.{lengths_of};
+ghost use Rattle.machine.specs.Lent.{lent};
 ghost use Rattle.machine.specs.Calls.{labelled_run};
+ghost use Rattle.arrayvec.specs.ArrayVec.{array_vec_len};
 ghost use Rattle.case_printing.specs.Appended.{Appended};
 ghost use Rattle.case_printing.specs.Outcome.{outcome_text};
 ghost use Rattle.case_reader.specs.Limits.{log_words, start_index};
-ghost use Rattle.case_reader.specs.Buffers.{Fits};
+ghost use Rattle.case_reader.specs.Limits.{Fits};
 ghost use Rattle.case_printing.specs.Room.{output_room};
 
+use arrayvec::ArrayVec;
 use case_printing::outcome::put_outcome;
 use case_reader::limits::{COUNTS_ROOM, LOG_WORDS, START_INDEX};
 use interpreter::labelled_run;
-use operation::layout::Settings;
+use operation::layout::{Settings, Spaces};
 
 // Prints what the labelled run leaves.
-pub fn print_run(
+pub fn print_run<const N: usize>(
     settings: Settings,
     list: &[u64],
     budget: u32,
-    unique: &mut [u8],
-    register: &mut [u8],
-    ram: &mut [u8],
-    unique_labels: &mut [u8],
-    register_labels: &mut [u8],
-    ram_labels: &mut [u8],
-    out: &mut [u8],
-) -> usize
-    requires fits { Fits (lengths_of (spaces unique.old register.old ram.old)) }
-    requires fits_2 { Fits (lengths_of (spaces unique_labels.old register_labels.old ram_labels.old)) }
-    requires output_room_in_bounds { output_room ≤ length out.old }
-    ensures { Appended 0 out.old (outcome_text (labelled_run settings list.now start_index budget (replicate log_words 0)
-        (spaces unique_labels.old register_labels.old ram_labels.old)
-        (spaces unique.old register.old ram.old))) result out.new }
+    memory: Spaces<&mut [u8]>,
+    labels: Spaces<&mut [u8]>,
+    out: &mut ArrayVec<u8, N>,
+)
+    requires fits { Fits (lengths_of (lent memory)) }
+    requires fits_2 { Fits (lengths_of (lent labels)) }
+    requires output_room_in_bounds { array_vec_len out.old + output_room ≤ N }
+    ensures { Appended out.old.items (outcome_text (labelled_run settings list.now start_index budget (replicate log_words 0)
+        (lent labels.entry) (lent memory.entry))) out.new.items }
 {
     let mut log = [0u64; LOG_WORDS];
     let mut unique_counts = [0u64; COUNTS_ROOM];
     let mut register_counts = [0u64; COUNTS_ROOM];
     let mut ram_counts = [0u64; COUNTS_ROOM];
+    let Spaces {
+        unique,
+        register,
+        ram,
+    } = memory;
+    let Spaces {
+        unique: unique_labels,
+        register: register_labels,
+        ram: ram_labels,
+    } = labels;
     let report = labelled_run(
         settings,
         list,
@@ -55,15 +63,15 @@ pub fn print_run(
         &mut ram_counts,
         &mut log,
     );
-    put_outcome(
-        out,
-        report,
-        &log,
+    let bytes: Spaces<&[u8]> = Spaces {
         unique,
         register,
         ram,
-        unique_labels,
-        register_labels,
-        ram_labels,
-    )
+    };
+    let label_bytes: Spaces<&[u8]> = Spaces {
+        unique: unique_labels,
+        register: register_labels,
+        ram: ram_labels,
+    };
+    put_outcome(out, report, &log, bytes, label_bytes);
 }
