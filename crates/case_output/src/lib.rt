@@ -33,7 +33,7 @@ pub fn finish<const N: usize>(reader: &Reader, out: &mut ArrayVec<u8, N>)
 {
     match &reader.stage {
         Stage::Nothing => put_bad(next_number(reader.number), out),
-        Stage::Reading(buffers) if reader.have == 0 => run_case(buffers, out),
+        Stage::Reading(buffers) if reader.line.is_empty() => run_case(buffers, out),
         Stage::Reading(_) => put_bad(next_number(reader.number), out),
         Stage::BadLine(number) => put_bad(*number, out),
     }

@@ -1,6 +1,8 @@
 -- A byte more of a text: what the reader then holds is what the definition says of the longer text.
 use Prim.Native.Nat.{ℕ, ◌+◌, ◌≤◌, ◌<◌, min}
-use Rattle.std.proofs.Common.{None}
+use Rattle.std.proofs.Common.{None, Result, Ok, Err, OnOk, OnErr, ◌↔◌}
+use Rattle.std.specs.Result.{IsOk}
+use Rattle.arrayvec.specs.ArrayVec.{ArrayVec}
 use mathlib.Core.Path.{◌≡◌, refl, sym, ap, ◌∙◌}
 use mathlib.Core.Bool.{Bool, true, false, cond}
 use mathlib.Core.List.{List, [], ◌∷◌, ◌++◌, append-nil, append_assoc}
@@ -8,8 +10,8 @@ use native.Mathlib.Numerals.{add-one}
 use native.Mathlib.Omega.{arith}
 use borrow.Author.Tests.{eq-eqb, ne_eqb, ltb-true, ltb-false}
 use lib.Dec.{eqb, ltb}
-use lib.ListN.{length, take, set, get_or, length-append, length-take, length-set}
-use lib.Seq.{take_all, take-nil, take-append-le, length-take-le, take-suc-set, take-suc}
+use lib.ListN.{length, take, get_or, length-append, length-take}
+use lib.Seq.{take_all, take-nil, take-append-le, length-take-le, take-suc}
 use Rattle.case_frame.specs.Frames.{frame_of}
 use Rattle.case_frame.proofs.Laws.{long_bad}
 use Rattle.case_reader.specs.Limits.{line_room}
@@ -78,19 +80,18 @@ cut_line n s p = by (ltb line_room (length s)) refl
 
 -- ---- what the reader holds after one byte more
 
--- the line buffer holds as much of the unfinished line as it has room for
-pub have_of : (text : List ℕ) (r : Reader) → HasRead text r → r.have ≡ min line_room (length (rest_of [] text))
-have_of text r h = sym (length-take-le r.have r.line (omega (arith, r.in_line, h.room))) ∙ ap length h.rest ∙ length-take line_room (rest_of [] text)
+-- the reader holds as much of the unfinished line as it has room for
+pub held : (text : List ℕ) (r : Reader) → HasRead text r → length r.line.items ≡ min line_room (length (rest_of [] text))
+held text r h = ap length h.rest ∙ length-take line_room (rest_of [] text)
 
 module _ (text : List ℕ) (r : Reader) (h : HasRead text r) (b : ℕ) where
   pub newline_read : b ≡ newline → {number : ℕ} → number ≡ next_number r.number → {g : Stage}
-      → progress_in g ≡ after_line number (take r.have r.line) (progress_in r.stage)
-      → {z : 0 ≤ line_room} → HasRead (text ++ (b ∷ [])) (record { line = r.line; have = 0; number = number; stage = g; in_line = z })
+      → progress_in g ≡ after_line number r.line.items (progress_in r.stage) → {l : ArrayVec ℕ} → l.items ≡ []
+      → HasRead (text ++ (b ∷ [])) (record { line = l; number = number; stage = g })
   unfolding line_read
-  newline_read e {number} k {g} d =
+  newline_read e {number} k {g} d i =
       record {
-        room = h.room;
-        rest = rw (rest_more [] text b, eq-eqb b newline e) (sym (take-nil {A = ℕ} line_room));
+        rest = rw (i, rest_more [] text b, eq-eqb b newline e) (sym (take-nil {A = ℕ} line_room));
         lines =
             rw (lines_more [] text b, eq-eqb b newline e)
             (rw (← k) (ap (λ x. record { count = number; progress = x })
@@ -99,29 +100,23 @@ module _ (text : List ℕ) (r : Reader) (h : HasRead text r) (b : ℕ) where
             ∙ sym (read_more no_line (lines_of [] text) (rest_of [] text)));
       }
 
-  other_lines : (b ≡ newline → ⊥) → (record { count = r.number; progress = progress_in r.stage }) ≡ lines_read no_line (lines_of [] (text ++ (b ∷ [])))
-  other_lines e = rw (lines_more [] text b, ne_eqb b newline e) h.lines
-
-  pub byte_read : (b ≡ newline → ⊥) → r.have < line_room → {z : r.have + 1 ≤ line_room}
-      → HasRead (text ++ (b ∷ [])) (record { line = set r.line r.have b; have = r.have + 1; number = r.number; stage = r.stage; in_line = z })
-  byte_read e k =
-      let few : length (rest_of [] text) < line_room = omega (arith, have_of text r h, k) in
+  -- a byte more, or none where the room is full
+  pub byte_read : (b ≡ newline → ⊥) → {l : ArrayVec ℕ} {E : Type 0} (q : Result Unit E) → (IsOk q ↔ (length r.line.items < line_room))
+      → OnOk q (l.items ≡ r.line.items ++ (b ∷ [])) → OnErr q (l ≡ r.line) → OnErr q (length r.line.items ≡ line_room) → HasRead (text ++ (b ∷ [])) (record { line = l; number = r.number; stage = r.stage })
+  byte_read e {l} (Ok u) v x y z =
+      let few : length (rest_of [] text) < line_room = omega (arith, held text r h, v.0 refl) in
       let one : length (rest_of [] text ++ (b ∷ [])) ≤ line_room = rw length-append (omega (arith, few)) in
       record {
-        room = simp length-set h.room;
         rest =
-            rw (rest_more [] text b, ne_eqb b newline e, add-one, take-suc-set r.line r.have b (omega (arith, k, h.room)), h.rest)
+            rw (x, rest_more [] text b, ne_eqb b newline e, h.rest)
             (ap (λ x. x ++ (b ∷ [])) (take_all line_room (rest_of [] text) (omega (arith, few))) ∙ sym (take_all line_room (rest_of [] text ++ (b ∷ [])) one));
-        lines = other_lines e;
+        lines = rw (lines_more [] text b, ne_eqb b newline e) h.lines;
       }
-
-  pub byte_dropped : (b ≡ newline → ⊥) → line_room ≤ r.have → HasRead (text ++ (b ∷ [])) r
-  byte_dropped e k =
-      let many : line_room ≤ length (rest_of [] text) = omega (arith, have_of text r h, k) in
+  byte_read e {l} (Err i) v x y z =
+      let many : line_room ≤ length (rest_of [] text) = omega (arith, held text r h, z) in
       record {
-        room = h.room;
-        rest = rw (rest_more [] text b, ne_eqb b newline e) (h.rest ∙ sym (take-append-le line_room (rest_of [] text) (b ∷ []) many));
-        lines = other_lines e;
+        rest = rw (y, rest_more [] text b, ne_eqb b newline e) (h.rest ∙ sym (take-append-le line_room (rest_of [] text) (b ∷ []) many));
+        lines = rw (lines_more [] text b, ne_eqb b newline e) h.lines;
       }
 
 -- ---- a part, byte by byte

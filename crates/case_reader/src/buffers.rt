@@ -1,8 +1,11 @@
 // The case that was read so far, in buffers of fixed length.
-ghost use Rattle.std.specs.Prelude.{◌≤◌};
-ghost use Rattle.case_reader.specs.Limits.{most_case_operations, Fits};
+ghost use Rattle.std.specs.Prelude.{◌≡◌, ◌%◌};
+ghost use Rattle.arrayvec.specs.ArrayVec.{array_vec_len};
+ghost use Rattle.operation.specs.Layout.{words_per_operation};
+ghost use Rattle.case_reader.specs.Limits.{Fits};
 
 use crate::limits::{MOST_CASE_BYTES, WORDS_ROOM};
+use arrayvec::ArrayVec;
 use operation::layout::{Lengths, Settings, Spaces};
 
 // For the bytes of a space, or for their labels.
@@ -16,8 +19,7 @@ pub struct Buffers {
     pub budget: u32,
     pub memory: Spaces<Room>,
     pub labels: Spaces<Room>,
-    pub operations: usize,
-    pub words: [u64; WORDS_ROOM],
+    pub words: ArrayVec<u64, WORDS_ROOM>,
     pub ghost fits: { Fits lengths },
-    pub ghost few: { operations ≤ most_case_operations },
+    pub ghost whole: { array_vec_len words % words_per_operation ≡ 0 },
 }

@@ -7,7 +7,8 @@ ghost use Rattle.case_reader.specs.Case.{Progress, lengths_fit, opened, in_space
 ghost use Rattle.case_reader.specs.Buffers.{memory_in, case_in, progress_in};
 
 use crate::buffers::{Buffers, Room};
-use crate::limits::{MOST_CASE_BYTES, MOST_CASE_OPERATIONS, WORDS_ROOM};
+use crate::limits::MOST_CASE_BYTES;
+use arrayvec::ArrayVec;
 use case_frame::{Frame, Target, frame_of, store_bytes, store_words};
 use operation::layout::{Lengths, REGISTER, Spaces, UNIQUE, WORDS_PER_OPERATION};
 use operation::rules::length_of;
@@ -74,8 +75,7 @@ impl Buffers {
             budget,
             memory: no_bytes(),
             labels: no_bytes(),
-            operations: 0,
-            words: [0; WORDS_ROOM],
+            words: ArrayVec::new(),
         })
     }
 
@@ -101,13 +101,11 @@ impl Buffers {
                 }
             }
             Frame::Operation => {
-                if self.operations == MOST_CASE_OPERATIONS {
-                    return Err(BadLine);
-                }
-                let at = WORDS_PER_OPERATION * self.operations;
-                store_words(s, &mut self.words[at..at + WORDS_PER_OPERATION]);
-                self.operations += 1;
-                Ok(())
+                let mut words = [0; WORDS_PER_OPERATION];
+                store_words(s, &mut words);
+                self.words
+                    .try_extend_from_slice(&words)
+                    .map_err(|_| BadLine)
             }
         }
     }

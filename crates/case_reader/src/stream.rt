@@ -1,35 +1,30 @@
 // A text that comes in parts.
-ghost use Rattle.std.specs.Prelude.{◌≡◌, ◌≤◌};
-ghost use Rattle.case_reader.specs.Limits.{line_room};
+ghost use Rattle.std.specs.Prelude.{◌≡◌, [], ◌∷◌};
+ghost use Rattle.case_reader.specs.Stream.{HasRead, Advanced};
 ghost use Rattle.case_reader.specs.Lines.{next_number};
 
 use crate::limits::LINE_ROOM;
 use crate::line::Stage;
+use arrayvec::ArrayVec;
 
-// The unfinished line, of which `have` bytes stand in `line`, how many lines were read, and what they said.
+// The unfinished line, how many lines were read, and what they said.
 #[derive(Drop)]
 pub struct Reader {
-    line: [u8; LINE_ROOM],
-    pub have: usize,
+    pub line: ArrayVec<u8, LINE_ROOM>,
     pub number: u64,
     pub stage: Stage,
-    pub ghost in_line: { have ≤ line_room },
 }
 
 // Ends a line.
 pub const NEWLINE: u8 = b'\n';
 
 impl Reader {
-    ghost use Rattle.std.specs.Prelude.{[], ◌∷◌};
-    ghost use Rattle.case_reader.specs.Stream.{HasRead, Advanced};
-
     // A reader that has read nothing.
     pub fn new() -> Reader
         ensures { HasRead [] result }
     {
         Reader {
-            line: [0; LINE_ROOM],
-            have: 0,
+            line: ArrayVec::new(),
             number: 0,
             stage: Stage::Nothing,
         }
@@ -50,12 +45,11 @@ impl Reader {
     {
         if b == NEWLINE {
             self.number = next_number(self.number);
-            let line = &self.line[..self.have];
-            self.stage.feed(self.number, line);
-            self.have = 0;
-        } else if self.have < LINE_ROOM {
-            self.line[self.have] = b;
-            self.have += 1;
+            self.stage.feed(self.number, self.line.as_slice());
+            self.line.clear();
+        } else {
+            // Of a line that fills its room, which no frame does, the rest counts no more.
+            let _ = self.line.try_push(b);
         }
     }
 }

@@ -1,8 +1,7 @@
-use Rattle.std.proofs.Common.{◌≡◌, length, Some, sym, ap, ◌∙◌, rules}
+use Rattle.std.proofs.Common.{Some, refl, sym, ap, ◌∙◌}
 use Rattle.std.proofs.lemmas.Result.{err_from_is_err_and}
-use Rattle.case_reader.specs.Limits.{words_room}
 use Rattle.case_reader.specs.Buffers.{case_in}
-use Rattle.case_reader.proofs.Feeding.{none_added, opening_added, on_line, in_memory, in_labels, words_line, five_words, full, one_more}
+use Rattle.case_reader.proofs.Feeding.{none_added, opening_added, on_line, in_memory, in_labels, words_line, one_more}
 use Rattle.case_reader.proofs.buffers.Buffers.add.Goals as goal
 
 pub returns-in_err-ok_or-clause-added : goal.returns-in_err-ok_or-clause-added
@@ -35,24 +34,14 @@ returns-in-Labels-clause-added c =
     let e = sym c.frame_of.ensures.answer ∙ c.in_ok-ok_or.ensures.ok_part ∙ ap Some c.in-Bytes.is in
     in_labels c.args.self.now _ _ _ _ _ e c.in-Labels.is _ _ c.store-in-Labels.ensures.ok c.store-in-Labels.ensures.err
 
-pub returns-then-self-eq-MOST_CASE_OPERATIONS-clause-added : goal.returns-then-self-eq-MOST_CASE_OPERATIONS-clause-added
-returns-then-self-eq-MOST_CASE_OPERATIONS-clause-added c =
-    let b = c.args.self.now in
-    let w : length b.words ≡ words_room = search rules in
+pub returns-in-Operation-clause-added : goal.returns-in-Operation-clause-added
+unfolding case_in
+returns-in-Operation-clause-added c =
     let e = sym c.frame_of.ensures.answer ∙ c.in_ok-ok_or.ensures.ok_part ∙ ap Some c.in-Operation.is in
-    λ n. full b _ w e n c.if-self-eq-MOST_CASE_OPERATIONS.true
+    let x = c.try_extend_from_slice.ensures in
+    one_more c.args.self.now _ e _ _ c.map_err.ensures.variant _ c.store_words.ensures x.variant x.ok
 
 pub store_words-requires : goal.store_words-requires
 store_words-requires c =
-    let b = c.args.self.now in
-    let w : length b.words ≡ words_room = search rules in
     let e = sym c.frame_of.ensures.answer ∙ c.in_ok-ok_or.ensures.ok_part ∙ ap Some c.in-Operation.is in
-    (words_line b _ w e, five_words b _ w e c.if-self-eq-MOST_CASE_OPERATIONS.false)
-
-pub returns-else-self-eq-MOST_CASE_OPERATIONS-clause-added : goal.returns-else-self-eq-MOST_CASE_OPERATIONS-clause-added
-unfolding case_in
-returns-else-self-eq-MOST_CASE_OPERATIONS-clause-added c =
-    let b = c.args.self.now in
-    let w : length b.words ≡ words_room = search rules in
-    let e = sym c.frame_of.ensures.answer ∙ c.in_ok-ok_or.ensures.ok_part ∙ ap Some c.in-Operation.is in
-    λ n. one_more b _ w e c.if-self-eq-MOST_CASE_OPERATIONS.false n _ c.store_words.ensures
+    (words_line c.args.self.now _ e, refl)
