@@ -2,6 +2,7 @@
 ghost use Rattle.std.specs.Prelude.{◌≡◌, ◌≤◌};
 ghost use Rattle.machine.specs.Memory.{OfBytes, spaces, lengths_of, space_of};
 ghost use Rattle.machine.specs.Lent.{held, lent};
+ghost use Rattle.machine.specs.Recounts.{WordsOf};
 
 use operation::layout::{Lengths, REGISTER, Spaces, UNIQUE};
 
@@ -49,7 +50,19 @@ pub fn are_bytes(memory: Spaces<&[u8]>)
     slices_are_bytes(memory.unique, memory.register, memory.ram)
 }
 
+// The same of lent counts.
+pub fn are_words(counts: &Spaces<&mut [u64]>)
+    ensures { WordsOf (lent counts.now) }
+{
+    slices_are_words(counts.unique, counts.register, counts.ram)
+}
+
 fn slices_are_bytes(unique: &[u8], register: &[u8], ram: &[u8])
     ensures { OfBytes (spaces unique.now register.now ram.now) }
+{
+}
+
+fn slices_are_words(unique: &[u64], register: &[u64], ram: &[u64])
+    ensures { WordsOf (spaces unique.now register.now ram.now) }
 {
 }

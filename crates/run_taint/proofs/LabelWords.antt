@@ -267,6 +267,18 @@ pub late_moves : (n : ℕ) → first_integer ≤ n → member n moving ≡ membe
 unfolding member
 late_moves n l = rw (ne_eqb n 1 (λ e. omega arith), ne_eqb n 2 (λ e. omega arith), ne_eqb n 3 (λ e. omega arith)) refl
 
+-- the four tests in a row
+or_right : (a b c d : Bool) → ((a || b) || c) || d ≡ a || (b || (c || (d || false)))
+or_right true b c d = refl
+or_right false true c d = refl
+or_right false false true d = refl
+or_right false false false true = refl
+or_right false false false false = refl
+
+pub late_tests : (n : ℕ) → first_integer ≤ n → ((eqb n 10 || eqb n 11) || eqb n 19) || eqb n 20 ≡ member n moving
+unfolding member
+late_tests n l = rw (late_moves n l) (or_right (eqb n 10) (eqb n 11) (eqb n 19) (eqb n 20))
+
 each_late_move : (P : ℕ → Type 0) → P 10 → P 11 → P 19 → P 20 → (n : ℕ) → first_integer ≤ n → member n moving ≡ true → P n
 unfolding member
 each_late_move P p10 p11 p19 p20 n l e =

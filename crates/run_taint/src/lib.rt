@@ -5,40 +5,42 @@ ghost use Rattle.std.specs.Prelude.{◌≡◌, cond, ℕ, ◌+◌, ◌*◌, ◌-
 ghost use Rattle.word.specs.Sum.{digit};
 ghost use Rattle.arithmetic.specs.Opcodes.{first_integer, member};
 ghost use Rattle.operation.specs.Layout.{words_per_operation, operation_count, opcode_at};
-ghost use Rattle.machine.specs.Memory.{Memory, spaces, lengths_of};
+ghost use Rattle.machine.specs.Memory.{Memory, lengths_of};
+ghost use Rattle.machine.specs.Lent.{held};
 ghost use Rattle.machine.specs.Effect.{operation_at, pointee};
 ghost use Rattle.machine.specs.Conditions.{has_secret, leaks, destination_bytes, moving};
 ghost use Rattle.run_memory.specs.Placed.{Placed};
 ghost use Rattle.run_plan.specs.Valid.{Valid};
 ghost use Rattle.run_taint.specs.Taint.{Readable, MovesBytes, LabelWord, MovedWord, WordOf, source_of};
 
-use arithmetic::opcodes::FIRST_INTEGER;
+use arithmetic::opcodes::{
+    CBRANCH, FIRST_INTEGER, INT_SEXT, INT_ZEXT, LOAD, PIECE, STORE, SUBPIECE,
+};
 use arithmetic::operands::is_division;
 use integer::boolean::{either, flag};
 use integer::unsigned::{piece, subpiece};
-use operation::layout::{Varnode, absent, opcode_at, varnode_at};
+use operation::layout::{Spaces, Varnode, absent, opcode_at, varnode_at};
 use operation::rules::{accesses, jumps};
 use run_memory::labels::{each_label, has_secret, labels_at, ordered};
+use run_memory::space::are_bytes;
 
 // LEAK: a byte that must be public is secret. Of a division both operands must be public, of any other integer operation none, and below them
 // at most one varnode.
-pub fn leaks_at<'a>(
+pub fn leaks_at(
     list: &[u64],
-    unique: &'a [u8],
-    register: &'a [u8],
-    ram: &'a [u8],
+    labels: Spaces<&[u8]>,
     i: usize,
 ) -> bool
-    requires { Valid (lengths_of (spaces unique.now register.now ram.now)) list.now × (i < operation_count list.now) }
-    ensures { result ≡ leaks (spaces unique.now register.now ram.now) (operation_at list.now i) }
+    requires { Valid (lengths_of (held labels)) list.now × (i < operation_count list.now) }
+    ensures { result ≡ leaks (held labels.entry) (operation_at list.now i) }
 {
     let opcode = opcode_at(list, i);
     if opcode < FIRST_INTEGER {
-        return has_secret(unique, register, ram, sink_at(list, i));
+        return has_secret(labels, sink_at(list, i));
     }
     if is_division(opcode) {
-        let secret_dividend = has_secret(unique, register, ram, varnode_at(list, i, 1));
-        let secret_divisor = has_secret(unique, register, ram, varnode_at(list, i, 2));
+        let secret_dividend = has_secret(labels, varnode_at(list, i, 1));
+        let secret_divisor = has_secret(labels, varnode_at(list, i, 2));
         return either(secret_dividend, secret_divisor);
     }
     false
@@ -52,7 +54,7 @@ fn sink_at(list: &[u64], i: usize) -> Varnode
     ensures place { (labels : Memory) → Valid (lengths_of labels) list.now → i < operation_count list.now → Placed labels result }
 {
     let opcode = opcode_at(list, i);
-    if either(accesses(opcode), opcode == 5) {
+    if either(accesses(opcode), opcode == CBRANCH) {
         return varnode_at(list, i, 2);
     }
     if jumps(opcode) {
@@ -79,7 +81,7 @@ pub fn target_at(list: &[u64], i: usize, offset: u64) -> Varnode
     requires { words_per_operation * i + words_per_operation ≤ length list.now }
     ensures { result ≡ destination_bytes (operation_at list.now i) offset }
 {
-    if opcode_at(list, i) == 3 {
+    if opcode_at(list, i) == STORE {
         let input2 = varnode_at(list, i, 3);
         return pointee_at(list, i, offset, input2.size);
     }
@@ -89,30 +91,29 @@ pub fn target_at(list: &[u64], i: usize, offset: u64) -> Varnode
 // The labels that operation i writes to its target, as the number that they make in little order. COPY, LOAD and STORE, which are all that write
 // below the integer operations, keep bytes in their places, in either order; PIECE, SUBPIECE, INT_ZEXT and INT_SEXT move them by significance; of any
 // other operation all bytes become secret if a byte of an input is.
-pub fn labels_written<'a>(
+pub fn labels_written(
     big: bool,
     list: &[u64],
-    unique: &'a [u8],
-    register: &'a [u8],
-    ram: &'a [u8],
+    labels: Spaces<&[u8]>,
     i: usize,
     offset: u64,
 ) -> u64
-    requires { Readable (spaces unique.now register.now ram.now) list.now i offset }
-    ensures { LabelWord big (spaces unique.now register.now ram.now) (operation_at list.now i) offset result }
+    requires { Readable (held labels) list.now i offset }
+    ensures { LabelWord big (held labels.entry) (operation_at list.now i) offset result }
 {
+    are_bytes(labels);
     let opcode = opcode_at(list, i);
     if opcode < FIRST_INTEGER {
         let source = source_at(list, i, offset);
-        return labels_at(unique, register, ram, source);
+        return labels_at(labels, source);
     }
     if moves(opcode) {
         let output = varnode_at(list, i, 0);
-        let word = moved_word(big, list, unique, register, ram, i);
+        let word = moved_word(big, list, labels, i);
         return ordered(big, output.size, word);
     }
-    let first = has_secret(unique, register, ram, varnode_at(list, i, 1));
-    let second = has_secret(unique, register, ram, varnode_at(list, i, 2));
+    let first = has_secret(labels, varnode_at(list, i, 1));
+    let second = has_secret(labels, varnode_at(list, i, 2));
     each_label(flag(either(first, second)))
 }
 
@@ -122,74 +123,59 @@ fn source_at(list: &[u64], i: usize, offset: u64) -> Varnode
     ensures { result ≡ source_of (operation_at list.now i) offset }
 {
     let opcode = opcode_at(list, i);
-    if opcode == 2 {
+    if opcode == LOAD {
         let output = varnode_at(list, i, 0);
         return pointee_at(list, i, offset, output.size);
     }
-    if opcode == 3 {
+    if opcode == STORE {
         return varnode_at(list, i, 3);
     }
     varnode_at(list, i, 1)
 }
 
-// Of the integer operations PIECE, SUBPIECE, INT_ZEXT and INT_SEXT move bytes. The first test tells most of the others; a test a line, as the
-// classes of `operation::rules`.
+// Of the integer operations PIECE, SUBPIECE, INT_ZEXT and INT_SEXT move bytes.
 fn moves(opcode: u64) -> bool
     requires { first_integer ≤ opcode }
     ensures { result ≡ member opcode moving }
 {
-    if 20 < opcode {
-        return false;
-    }
-    if opcode == 10 {
-        return true;
-    }
-    if opcode == 11 {
-        return true;
-    }
-    if opcode == 19 {
-        return true;
-    }
-    opcode == 20
+    (opcode == PIECE) | (opcode == SUBPIECE) | (opcode == INT_ZEXT) | (opcode == INT_SEXT)
 }
 
 // The labels that these four write, as the number that they make by significance; what it has above the output is free. The value goes the
 // same way, but for the fill of INT_SEXT: a label is no sign.
-fn moved_word<'a>(
+fn moved_word(
     big: bool,
     list: &[u64],
-    unique: &'a [u8],
-    register: &'a [u8],
-    ram: &'a [u8],
+    labels: Spaces<&[u8]>,
     i: usize,
 ) -> u64
-    requires { MovesBytes (spaces unique.now register.now ram.now) list.now i }
-    ensures { MovedWord big (spaces unique.now register.now ram.now) (operation_at list.now i) result }
+    requires { MovesBytes (held labels) list.now i }
+    ensures { MovedWord big (held labels.entry) (operation_at list.now i) result }
 {
     let opcode = opcode_at(list, i);
     let output = varnode_at(list, i, 0);
     let input0 = varnode_at(list, i, 1);
     let input1 = varnode_at(list, i, 2);
-    let a = labels_of(big, unique, register, ram, input0);
+    let a = labels_of(big, labels, input0);
     match opcode {
-        10 => piece(
+        PIECE => piece(
             input1.size,
             a,
-            labels_of(big, unique, register, ram, input1),
+            labels_of(big, labels, input1),
         ),
-        11 => subpiece(output.size, a, input1.offset),
-        20 => extended_word(input0.size, a),
+        SUBPIECE => subpiece(output.size, a, input1.offset),
+        INT_SEXT => extended_word(input0.size, a),
         _ => a,
     }
 }
 
 // The labels of a varnode as the number that they make by significance.
-fn labels_of<'a>(big: bool, unique: &'a [u8], register: &'a [u8], ram: &'a [u8], v: Varnode) -> u64
-    requires { Placed (spaces unique.now register.now ram.now) v × (1 ≤ v.size) }
-    ensures { WordOf big (spaces unique.now register.now ram.now) v result }
+fn labels_of(big: bool, labels: Spaces<&[u8]>, v: Varnode) -> u64
+    requires { Placed (held labels) v × (1 ≤ v.size) }
+    ensures { WordOf big (held labels.entry) v result }
 {
-    let labels = labels_at(unique, register, ram, v);
-    ordered(big, v.size, labels)
+    are_bytes(labels);
+    ordered(big, v.size, labels_at(labels, v))
 }
 
 // INT_SEXT of a label word: the top label in each byte above.

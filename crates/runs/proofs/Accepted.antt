@@ -14,6 +14,9 @@ use Rattle.secret_counts.specs.Moved.{low_bit, secret_weight}
 use Rattle.operation.specs.declared.layout.Settings.{Settings}
 use Rattle.operation.specs.Spaces.{Lengths}
 use Rattle.operation.specs.declared.report.Report.{Report}
+use Rattle.operation.specs.declared.report.Refused.{Refused}
+use Rattle.operation.specs.Numbers.{number_of}
+use Rattle.operation.proofs.Numbers.{positive}
 use Rattle.operation.specs.Layout.{operation_count}
 use Rattle.validation.specs.Verdict.{settings_in_range, lengths_in_range, refusal_report, verdict}
 use Rattle.validation.proofs.WellFormed.{verdict-zero}
@@ -39,6 +42,11 @@ use Rattle.run_plan.specs.Valid.{Valid}
 use Rattle.run_execution.specs.Loops.{position}
 use Rattle.run_labelled.specs.Turns.{Fitting}
 use Rattle.run_window.specs.Windows.{Spared}
+
+-- the ending of a refusal
+pub refused_ending : (r : Refused) {report : Report} → report ≡ refusal_report (number_of r.why) r.index → report.ending ≡ 0 → ⊥
+unfolding refusal_report
+refused_ending r e z = omega (arith, ap (λ (x : Report). x.ending) e, z, positive r.why)
 
 -- where nothing is refused, the loops may run, and no label calls for 11 or 12
 pub accepted : (settings : Settings) (lengths : Lengths) (list : List ℕ) (start : ℕ) (fitting valid : Bool) (found : Report)

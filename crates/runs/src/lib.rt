@@ -14,6 +14,7 @@ use run_refusal::{
 };
 use run_speculative::speculate_from;
 use secret_counts::fill;
+use validation::refusal_report;
 
 // A run of at most `budget` operations, from operation `start`, without labels: the papers' plain run.
 pub fn run(
@@ -30,9 +31,8 @@ pub fn run(
         (spaces unique.old register.old ram.old) log.old
         (spaces unique.new register.new ram.new) log.new result }
 {
-    let refused = plain_refusal(settings, list, start, unique, register, ram);
-    if refused.ending != 0 {
-        return refused;
+    if let Err(refused) = plain_refusal(settings, list, start, unique, register, ram) {
+        return refused.into();
     }
     let mut unique_labels: [u8; 0] = [];
     let mut register_labels: [u8; 0] = [];
@@ -91,7 +91,7 @@ pub fn labelled_run(
         register_counts.len(),
         ram_counts.len(),
     );
-    let refused = labelled_refusal(
+    if let Err(refused) = labelled_refusal(
         settings,
         list,
         start,
@@ -102,9 +102,8 @@ pub fn labelled_run(
         unique_labels,
         register_labels,
         ram_labels,
-    );
-    if refused.ending != 0 {
-        return refused;
+    ) {
+        return refused.into();
     }
     run_any(
         true,
@@ -159,7 +158,7 @@ pub fn speculative_run(
         register_counts.len(),
         ram_counts.len(),
     );
-    let refused = speculative_refusal(
+    if let Err(refused) = speculative_refusal(
         settings,
         list,
         start,
@@ -172,9 +171,8 @@ pub fn speculative_run(
         unique_labels,
         register_labels,
         ram_labels,
-    );
-    if refused.ending != 0 {
-        return refused;
+    ) {
+        return refused.into();
     }
     let ran = speculate_from(
         settings,
@@ -211,18 +209,18 @@ pub fn count_secrets(
         (spaces unique_counts.old register_counts.old ram_counts.old)
         (spaces unique_counts.new register_counts.new ram_counts.new) result }
 {
-    let refused = counting_refusal(
+    if let Err(refused) = counting_refusal(
         unique_labels,
         register_labels,
         ram_labels,
         unique_counts.len(),
         register_counts.len(),
         ram_counts.len(),
-    );
-    if refused.ending == 0 {
-        fill(unique_labels, unique_counts);
-        fill(register_labels, register_counts);
-        fill(ram_labels, ram_counts);
+    ) {
+        return refused.into();
     }
-    refused
+    fill(unique_labels, unique_counts);
+    fill(register_labels, register_counts);
+    fill(ram_labels, ram_counts);
+    refusal_report(0, 0)
 }

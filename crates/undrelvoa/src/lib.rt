@@ -32,9 +32,8 @@ pub extern "C" fn undrelvoa_value(
     ensures answer { result ≡ value_fault opcode size size0 size1 a b (length out.old) }
     ensures buffer { out.new ≡ cond (eqb result 0) (set out.old 0 (result_of opcode size size0 size1 a b)) out.old }
 {
-    let fault = of_value(opcode, size, size0, size1, a, b, out.len());
-    if fault != 0 {
-        return fault;
+    if let Err(fault) = of_value(opcode, size, size0, size1, a, b, out.len()) {
+        return fault.number();
     }
     out[0] = arithmetic::value(opcode, size, size0, size1, a, b);
     0
@@ -51,9 +50,8 @@ pub extern "C" fn undrelvoa_gather(
     ensures answer { result ≡ gather_fault order (length bytes.now) offset size (length out.old) }
     ensures buffer { out.new ≡ cond (eqb result 0) (set out.old 0 (value_of (eqb order 1) (part bytes.now offset size))) out.old }
 {
-    let fault = of_gather(order, bytes.len(), offset, size, out.len());
-    if fault != 0 {
-        return fault;
+    if let Err(fault) = of_gather(order, bytes.len(), offset, size, out.len()) {
+        return fault.number();
     }
     out[0] = value_of(order == 1, bytes, offset as usize, size as usize);
     0
@@ -70,9 +68,8 @@ pub extern "C" fn undrelvoa_scatter(
     ensures answer { result ≡ scatter_fault order (length bytes.old) offset size value }
     ensures buffer { bytes.new ≡ cond (eqb result 0) (sets bytes.old offset (bytes_of (eqb order 1) size value)) bytes.old }
 {
-    let fault = of_scatter(order, bytes.len(), offset, size, value);
-    if fault != 0 {
-        return fault;
+    if let Err(fault) = of_scatter(order, bytes.len(), offset, size, value) {
+        return fault.number();
     }
     store(order == 1, bytes, offset as usize, size as usize, value);
     0
@@ -90,9 +87,8 @@ pub extern "C" fn undrelvoa_validate(
     ensures answer { AnswerPromise settings.now report.old result }
     ensures buffer { report.new ≡ cond (eqb result 0) (sets report.old 0 (verdict_words settings.now unique register ram list.now)) report.old }
 {
-    let fault = of_lengths(settings.len(), report.len());
-    if fault != 0 {
-        return fault;
+    if let Err(fault) = of_lengths(settings.len(), report.len()) {
+        return fault.number();
     }
     let settings = settings_in(settings);
     let lengths = Lengths {
@@ -122,9 +118,8 @@ pub extern "C" fn undrelvoa_run(
         (spaces unique.old register.old ram.old) log.old report.old
         (spaces unique.new register.new ram.new) log.new report.new result }
 {
-    let fault = of_lengths(settings.len(), report.len());
-    if fault != 0 {
-        return fault;
+    if let Err(fault) = of_lengths(settings.len(), report.len()) {
+        return fault.number();
     }
     let settings = settings_in(settings);
     let ran = interpreter::run(settings, list, start, budget, unique, register, ram, log);
@@ -148,9 +143,8 @@ pub extern "C" fn undrelvoa_step(
         (spaces unique.old register.old ram.old) log.old report.old
         (spaces unique.new register.new ram.new) log.new report.new result }
 {
-    let fault = of_lengths(settings.len(), report.len());
-    if fault != 0 {
-        return fault;
+    if let Err(fault) = of_lengths(settings.len(), report.len()) {
+        return fault.number();
     }
     let settings = settings_in(settings);
     let ran = interpreter::step(settings, list, start, unique, register, ram, log);
@@ -187,9 +181,8 @@ pub extern "C" fn undrelvoa_labelled_run(
         (spaces unique_counts.new register_counts.new ram_counts.new)
         log.new report.new result }
 {
-    let fault = of_lengths(settings.len(), report.len());
-    if fault != 0 {
-        return fault;
+    if let Err(fault) = of_lengths(settings.len(), report.len()) {
+        return fault.number();
     }
     let settings = settings_in(settings);
     let ran = interpreter::labelled_run(
@@ -240,9 +233,8 @@ pub extern "C" fn undrelvoa_labelled_step(
         (spaces unique_counts.new register_counts.new ram_counts.new)
         log.new report.new result }
 {
-    let fault = of_lengths(settings.len(), report.len());
-    if fault != 0 {
-        return fault;
+    if let Err(fault) = of_lengths(settings.len(), report.len()) {
+        return fault.number();
     }
     let settings = settings_in(settings);
     let ran = interpreter::labelled_step(
@@ -295,9 +287,8 @@ pub extern "C" fn undrelvoa_speculative_run(
         (spaces unique_counts.new register_counts.new ram_counts.new)
         log.new journal.new report.new result }
 {
-    let fault = of_lengths(settings.len(), report.len());
-    if fault != 0 {
-        return fault;
+    if let Err(fault) = of_lengths(settings.len(), report.len()) {
+        return fault.number();
     }
     let settings = settings_in(settings);
     let ran = interpreter::speculative_run(
@@ -338,9 +329,8 @@ pub extern "C" fn undrelvoa_count_secrets(
         (spaces unique_counts.old register_counts.old ram_counts.old) report.old
         (spaces unique_counts.new register_counts.new ram_counts.new) report.new result }
 {
-    let fault = of_report(report.len());
-    if fault != 0 {
-        return fault;
+    if let Err(fault) = of_report(report.len()) {
+        return fault.number();
     }
     let counted = interpreter::count_secrets(
         unique_labels,
@@ -367,9 +357,8 @@ pub extern "C" fn undrelvoa_show<'a>(
     ensures answer { result ≡ place_fault (length place.old) }
     ensures buffer { place.new ≡ cond (eqb result 0) (sets place.old 0 (place_words unique.now register.now ram.now space offset size)) place.old }
 {
-    let fault = of_place(place.len());
-    if fault != 0 {
-        return fault;
+    if let Err(fault) = of_place(place.len()) {
+        return fault.number();
     }
     let shown = shown_length(unique, register, ram, space, offset, size);
     write_place(place, space, offset, shown);

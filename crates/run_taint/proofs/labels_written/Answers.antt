@@ -4,7 +4,6 @@ use Rattle.arithmetic.specs.Opcodes.{member}
 use Rattle.machine.specs.Effect.{operation_at}
 use Rattle.machine.specs.Conditions.{moving}
 use Rattle.run_plan.proofs.Opcodes.{of_opcode}
-use Rattle.run_memory.proofs.Spaces.{of_bytes}
 use Rattle.run_plan.proofs.Places.{in_words}
 use Rattle.run_taint.proofs.LabelWords.{place_source, word_early, moves_bytes, some_output, place_moved, word_moved, place_input, flag_small, whole_most, word_whole}
 use Rattle.run_taint.proofs.labels_written.Goals as goal
@@ -27,7 +26,7 @@ labels_at-requires c =
 
 pub returns-then-opcode-lt-FIRST_INTEGER : goal.returns-then-opcode-lt-FIRST_INTEGER
 returns-then-opcode-lt-FIRST_INTEGER c =
-    let bytes = of_bytes _ _ _ (λ k. (c.type_inv.unique k).fits) (λ k. (c.type_inv.register k).fits) (λ k. (c.type_inv.ram k).fits) in
+    let bytes = c.are_bytes.ensures in
     word_early _ _ _ _ c.requires _ bytes (rw c.opcode_at-opcode.ensures at c.if-opcode-lt-FIRST_INTEGER.true) _ c.source_at-source.ensures _ c.labels_at.ensures
 
 -- ---- PIECE, SUBPIECE, INT_ZEXT, INT_SEXT

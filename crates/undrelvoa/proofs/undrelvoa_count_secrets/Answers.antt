@@ -5,12 +5,12 @@ use Rattle.undrelvoa.proofs.undrelvoa_count_secrets.Goals as goal
 
 pub write_report-requires : goal.write_report-requires
 write_report-requires c =
-    report_passed _ (sym c.of_report-fault.ensures ∙ c.if-fault-ne0.false)
+    report_passed _ (sym c.in_default.ensures)
 
 pub returns : goal.returns
 unfolding after_counting
 returns c =
     record {
-      answer = sym c.if-fault-ne0.false ∙ c.of_report-fault.ensures;
+      answer = c.in_default.ensures;
       buffers = rw c.write_report.ensures (ap (after_counting _) c.count_secrets-counted.ensures);
     }

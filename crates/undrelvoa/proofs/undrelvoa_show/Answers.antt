@@ -5,12 +5,12 @@ use Rattle.undrelvoa.proofs.undrelvoa_show.Goals as goal
 
 pub write_place-requires : goal.write_place-requires
 write_place-requires c =
-    place_passed _ (sym c.of_place-fault.ensures ∙ c.if-fault-ne0.false)
+    place_passed _ (sym c.in_default.ensures)
 
 pub returns : goal.returns
 unfolding place_words
 returns c =
     record {
-      answer = sym c.if-fault-ne0.false ∙ c.of_place-fault.ensures;
+      answer = c.in_default.ensures;
       buffer = c.write_place.ensures ∙ rw c.shown_length-shown.ensures refl;
     }
