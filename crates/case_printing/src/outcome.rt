@@ -7,7 +7,7 @@ ghost use Rattle.arrayvec.specs.ArrayVec.{array_vec_len};
 ghost use Rattle.case_printing.specs.Appended.{Appended};
 ghost use Rattle.case_printing.specs.Outcome.{memory_text, outcome_text};
 ghost use Rattle.case_reader.specs.Limits.{log_words};
-ghost use Rattle.case_reader.specs.Buffers.{Fits};
+ghost use Rattle.case_reader.specs.Limits.{Fits};
 ghost use Rattle.case_printing.specs.Room.{memory_text_room, output_room};
 
 use crate::text::{
