@@ -17,8 +17,7 @@ use Rattle.machine.proofs.Limits.{limits}
 use Rattle.machine.proofs.Recounts.{counts_of_labelled_runs}
 use Rattle.case_printing.specs.Appended.{Appended}
 use Rattle.case_printing.specs.Outcome.{outcome_text}
-use Rattle.case_reader.specs.Limits.{most_case_bytes, log_words, start_index, counts_room}
-use Rattle.case_reader.specs.Limits.{Fits}
+use Rattle.case_reader.specs.Limits.{most_case_bytes, log_words, start_index, counts_room, Fits}
 
 -- counts of zeros that have room for the longest space, of each space
 abbrev pub no_counts : Memory

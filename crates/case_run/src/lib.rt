@@ -8,8 +8,7 @@ ghost use Rattle.machine.specs.Calls.{labelled_run};
 ghost use Rattle.arrayvec.specs.ArrayVec.{array_vec_len};
 ghost use Rattle.case_printing.specs.Appended.{Appended};
 ghost use Rattle.case_printing.specs.Outcome.{outcome_text};
-ghost use Rattle.case_reader.specs.Limits.{log_words, start_index};
-ghost use Rattle.case_reader.specs.Limits.{Fits};
+ghost use Rattle.case_reader.specs.Limits.{log_words, start_index, Fits};
 ghost use Rattle.case_printing.specs.Room.{output_room};
 
 use arrayvec::ArrayVec;
