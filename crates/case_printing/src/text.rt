@@ -29,7 +29,7 @@ pub(crate) const DUMP_LENGTH: usize = BYTES_COLUMN + BYTE_DIGITS * BYTES_PER_LIN
 // The bytes of a space that one line shows.
 pub(crate) const BYTES_PER_LINE: usize = 16;
 
-const HEX_DIGITS: [u8; 16] = *b"0123456789abcdef";
+static HEX_DIGITS: [u8; 16] = *b"0123456789abcdef";
 
 // A report on one line: five numbers, each with the character behind it.
 pub fn put_report<const N: usize>(out: &mut ArrayVec<u8, N>, report: Report)
