@@ -33,9 +33,11 @@ pub fn print_run<const N: usize>(
         (lent labels.entry) (lent memory.entry))) out.new.items }
 {
     let mut log = [0u64; LOG_WORDS];
-    let mut unique_counts = [0u64; COUNTS_ROOM];
-    let mut register_counts = [0u64; COUNTS_ROOM];
-    let mut ram_counts = [0u64; COUNTS_ROOM];
+    let mut counts = Spaces {
+        unique: [0u64; COUNTS_ROOM],
+        register: [0u64; COUNTS_ROOM],
+        ram: [0u64; COUNTS_ROOM],
+    };
     let Spaces {
         unique,
         register,
@@ -57,9 +59,9 @@ pub fn print_run<const N: usize>(
         unique_labels,
         register_labels,
         ram_labels,
-        &mut unique_counts,
-        &mut register_counts,
-        &mut ram_counts,
+        &mut counts.unique,
+        &mut counts.register,
+        &mut counts.ram,
         &mut log,
     );
     let bytes: Spaces<&[u8]> = Spaces {
