@@ -1,5 +1,5 @@
 // What a call answers: the papers' report, and what its ending can be.
-ghost use Rattle.std.specs.Prelude.{◌≡◌, cond, Ok, Err};
+ghost use Rattle.std.specs.Prelude.{◌≡◌, cond, Ok, Err, [], ◌∷◌};
 ghost use Rattle.operation.specs.Numbers.{number_of};
 
 // Why a run ended.
@@ -57,6 +57,15 @@ pub struct Report {
     pub executed: u64,
     pub logged: u64,
     pub value: u64,
+}
+
+// A report in its numbers.
+impl From<Report> for [u64; REPORT_NUMBERS] {
+    ghost from_gives = { λ r numbers. numbers ≡ r.ending ∷ r.index ∷ r.executed ∷ r.logged ∷ r.value ∷ [] };
+
+    fn from(r: Report) -> [u64; REPORT_NUMBERS] {
+        [r.ending, r.index, r.executed, r.logged, r.value]
+    }
 }
 
 // Why nothing ran, and at which operation: index 0, but for an operation that breaks a rule.

@@ -7,6 +7,7 @@ ghost use Rattle.machine.specs.Recounts.{WordsOf};
 use operation::layout::{Lengths, REGISTER, Spaces, UNIQUE};
 
 // The bytes of each space.
+#[tactic(auto, unfolding(machine::specs::Memory::lengths_of))]
 pub fn lengths_of(memory: Spaces<&[u8]>) -> Lengths
     ensures { result ≡ lengths_of (held memory.entry) }
 {
@@ -14,6 +15,18 @@ pub fn lengths_of(memory: Spaces<&[u8]>) -> Lengths
         unique: memory.unique.len() as u64,
         register: memory.register.len() as u64,
         ram: memory.ram.len() as u64,
+    }
+}
+
+// The words of lent counts.
+#[tactic(auto, unfolding(machine::specs::Memory::lengths_of))]
+pub fn words_of(counts: &Spaces<&mut [u64]>) -> Lengths
+    ensures { result ≡ lengths_of (lent counts.now) }
+{
+    Spaces {
+        unique: counts.unique.len() as u64,
+        register: counts.register.len() as u64,
+        ram: counts.ram.len() as u64,
     }
 }
 

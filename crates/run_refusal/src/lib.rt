@@ -3,12 +3,13 @@
 
 ghost use Rattle.std.specs.Prelude.{◌≡◌, true, cond, not, ◌&&◌, []};
 ghost use Rattle.validation.specs.Verdict.{lengths_in_range, refusal_report, reported};
-ghost use Rattle.machine.specs.Memory.{spaces, lengths_of};
+ghost use Rattle.machine.specs.Memory.{lengths_of};
+ghost use Rattle.machine.specs.Lent.{held};
 ghost use Rattle.machine.specs.Calls.{same_lengths, all_labels, labels_in_range, refusal};
 ghost use Rattle.machine.specs.Counts.{counts_fit};
 ghost use Rattle.speculation.specs.Speculation.{speculative_refusal};
 
-use operation::layout::{Lengths, Settings, operation_count};
+use operation::layout::{Lengths, Settings, Spaces, operation_count};
 use operation::report::{Refusal, Refused};
 use run_memory::space::lengths_of;
 use secret_counts::count_words;
@@ -25,46 +26,31 @@ pub fn plain_refusal(
     settings: Settings,
     list: &[u64],
     start: u64,
-    unique: &[u8],
-    register: &[u8],
-    ram: &[u8],
+    memory: Spaces<&[u8]>,
 ) -> Result<(), Refused>
-    ensures { reported result 0 ≡ refusal settings (lengths_of (spaces unique.now register.now ram.now)) list.now start true true }
+    ensures { reported result 0 ≡ refusal settings (lengths_of (held memory.entry)) list.now start true true }
 {
-    refusal(
-        settings,
-        lengths_of(unique, register, ram),
-        list,
-        start,
-        true,
-        true,
-    )
+    refusal(settings, lengths_of(memory), list, start, true, true)
 }
 
 // The refusals of a labelled run; `lent` says that no other buffer calls for 11.
+#[tactic(auto, unfolding(machine::specs::Calls::same_lengths))]
 pub fn labelled_refusal(
     settings: Settings,
     list: &[u64],
     start: u64,
     lent: bool,
-    unique: &[u8],
-    register: &[u8],
-    ram: &[u8],
-    unique_labels: &[u8],
-    register_labels: &[u8],
-    ram_labels: &[u8],
+    memory: Spaces<&[u8]>,
+    labels: Spaces<&[u8]>,
 ) -> Result<(), Refused>
-    ensures { reported result 0 ≡ refusal settings (lengths_of (spaces unique.now register.now ram.now)) list.now start
-        (same_lengths (lengths_of (spaces unique_labels.now register_labels.now ram_labels.now))
-        (lengths_of (spaces unique.now register.now ram.now)) && lent)
-        (labels_in_range (spaces unique_labels.now register_labels.now ram_labels.now)) }
+    ensures { reported result 0 ≡ refusal settings (lengths_of (held memory.entry)) list.now start
+        (same_lengths (lengths_of (held labels.entry))
+        (lengths_of (held memory.entry)) && lent)
+        (labels_in_range (held labels.entry)) }
 {
-    let lengths = lengths_of(unique, register, ram);
-    let fitting = same_lengths(
-        lengths_of(unique_labels, register_labels, ram_labels),
-        lengths,
-    );
-    let valid = labels_in_range(unique_labels, register_labels, ram_labels);
+    let lengths = lengths_of(memory);
+    let fitting = lengths_of(labels) == lengths;
+    let valid = labels_in_range(labels);
     refusal(settings, lengths, list, start, fitting & lent, valid)
 }
 
@@ -77,18 +63,14 @@ pub fn speculative_refusal(
     window: u64,
     words: usize,
     lent: bool,
-    unique: &[u8],
-    register: &[u8],
-    ram: &[u8],
-    unique_labels: &[u8],
-    register_labels: &[u8],
-    ram_labels: &[u8],
+    memory: Spaces<&[u8]>,
+    labels: Spaces<&[u8]>,
 ) -> Result<(), Refused>
-    ensures { reported result 0 ≡ speculative_refusal settings (lengths_of (spaces unique.now register.now ram.now)) list.now start
+    ensures { reported result 0 ≡ speculative_refusal settings (lengths_of (held memory.entry)) list.now start
         window words
-        (same_lengths (lengths_of (spaces unique_labels.now register_labels.now ram_labels.now))
-        (lengths_of (spaces unique.now register.now ram.now)) && lent)
-        (labels_in_range (spaces unique_labels.now register_labels.now ram_labels.now)) }
+        (same_lengths (lengths_of (held labels.entry))
+        (lengths_of (held memory.entry)) && lent)
+        (labels_in_range (held labels.entry)) }
 {
     Refusal::Setting.unless(window <= MOST_AHEAD)?;
     let needed = JOURNAL_WORDS * window;
@@ -97,42 +79,34 @@ pub fn speculative_refusal(
         list,
         start,
         (needed <= words as u64) & lent,
-        unique,
-        register,
-        ram,
-        unique_labels,
-        register_labels,
-        ram_labels,
+        memory,
+        labels,
     )
 }
 
 // 11 LENGTH, for counts: each space has as many as it needs.
 #[tactic(auto, unfolding(machine::specs::Counts::counts_fit))]
-pub fn counts_fit(lengths: Lengths, unique: usize, register: usize, ram: usize) -> bool
-    ensures { result ≡ counts_fit lengths (record { unique = unique; register = register; ram = ram }) }
+pub fn counts_fit(lengths: Lengths, words: Lengths) -> bool
+    ensures { result ≡ counts_fit lengths words }
 {
-    (count_words(lengths.unique) <= unique as u64)
-        & (count_words(lengths.register) <= register as u64)
-        & (count_words(lengths.ram) <= ram as u64)
+    (count_words(lengths.unique) <= words.unique)
+        & (count_words(lengths.register) <= words.register)
+        & (count_words(lengths.ram) <= words.ram)
 }
 
 // The refusals of filling counts: 11 for more labels than the largest space has bytes, or for counts that are too short; then 12.
 pub fn counting_refusal(
-    unique_labels: &[u8],
-    register_labels: &[u8],
-    ram_labels: &[u8],
-    unique: usize,
-    register: usize,
-    ram: usize,
+    labels: Spaces<&[u8]>,
+    words: Lengths,
 ) -> Result<(), Refused>
-    ensures { reported result 0 ≡ cond (not (lengths_in_range (lengths_of (spaces unique_labels.now register_labels.now ram_labels.now)) []
-        && counts_fit (lengths_of (spaces unique_labels.now register_labels.now ram_labels.now)) (record { unique = unique; register = register; ram = ram }))) (refusal_report 11 0)
-        (cond (not (labels_in_range (spaces unique_labels.now register_labels.now ram_labels.now))) (refusal_report 12 0) (refusal_report 0 0)) }
+    ensures { reported result 0 ≡ cond (not (lengths_in_range (lengths_of (held labels.entry)) []
+        && counts_fit (lengths_of (held labels.entry)) words)) (refusal_report 11 0)
+        (cond (not (labels_in_range (held labels.entry))) (refusal_report 12 0) (refusal_report 0 0)) }
 {
-    let lengths = lengths_of(unique_labels, register_labels, ram_labels);
-    let fitting = counts_fit(lengths, unique, register, ram);
+    let lengths = lengths_of(labels);
+    let fitting = counts_fit(lengths, words);
     Refusal::Length.unless(lengths_in_range(lengths, &[]) & fitting)?;
-    Refusal::Label.unless(labels_in_range(unique_labels, register_labels, ram_labels))?;
+    Refusal::Label.unless(labels_in_range(labels))?;
     Ok(())
 }
 
@@ -156,20 +130,12 @@ fn refusal(
     Ok(())
 }
 
-// 11 LENGTH, for labels: label and space lengths unequal.
-#[tactic(auto, unfolding(machine::specs::Calls::same_lengths))]
-fn same_lengths(a: Lengths, b: Lengths) -> bool
-    ensures { result ≡ same_lengths a b }
-{
-    (a.unique == b.unique) & (a.register == b.register) & (a.ram == b.ram)
-}
-
 // 12 LABEL: a label not 0 or 1.
 #[tactic(auto, unfolding(machine::specs::Calls::labels_in_range))]
-fn labels_in_range(unique: &[u8], register: &[u8], ram: &[u8]) -> bool
-    ensures { result ≡ labels_in_range (spaces unique.now register.now ram.now) }
+fn labels_in_range(labels: Spaces<&[u8]>) -> bool
+    ensures { result ≡ labels_in_range (held labels.entry) }
 {
-    all_labels(unique) & all_labels(register) & all_labels(ram)
+    all_labels(labels.unique) & all_labels(labels.register) & all_labels(labels.ram)
 }
 
 // Each label is 0 or 1: so the largest is. A loop that left at the first other one would take one label at a time.

@@ -20,6 +20,7 @@ use words::{settings_in, write_place, write_report};
 mod words;
 
 #[unsafe(no_mangle)]
+#[tactic(auto, using(undrelvoa_faults::proofs::Passed::value_passed))]
 pub extern "C" fn undrelvoa_value(
     opcode: u64,
     size: u64,
@@ -40,6 +41,7 @@ pub extern "C" fn undrelvoa_value(
 }
 
 #[unsafe(no_mangle)]
+#[tactic(auto, using(undrelvoa_faults::proofs::Passed::gather_passed))]
 pub extern "C" fn undrelvoa_gather(
     order: u64,
     bytes: &[u8],
@@ -58,6 +60,7 @@ pub extern "C" fn undrelvoa_gather(
 }
 
 #[unsafe(no_mangle)]
+#[tactic(auto, using(undrelvoa_faults::proofs::Passed::scatter_passed))]
 pub extern "C" fn undrelvoa_scatter(
     order: u64,
     bytes: &mut [u8],
@@ -76,6 +79,7 @@ pub extern "C" fn undrelvoa_scatter(
 }
 
 #[unsafe(no_mangle)]
+#[tactic(auto, using(undrelvoa_faults::proofs::Passed::lengths_passed), unfolding(crate::specs::Answers::verdict_words))]
 pub extern "C" fn undrelvoa_validate(
     settings: &[u64],
     unique: u64,
@@ -102,6 +106,7 @@ pub extern "C" fn undrelvoa_validate(
 }
 
 #[unsafe(no_mangle)]
+#[tactic(auto, using(undrelvoa_faults::proofs::Passed::lengths_passed), unfolding(crate::specs::Buffers::after))]
 pub extern "C" fn undrelvoa_run(
     settings: &[u64],
     list: &[u64],
@@ -128,6 +133,7 @@ pub extern "C" fn undrelvoa_run(
 }
 
 #[unsafe(no_mangle)]
+#[tactic(auto, using(undrelvoa_faults::proofs::Passed::lengths_passed), unfolding(crate::specs::Buffers::after))]
 pub extern "C" fn undrelvoa_step(
     settings: &[u64],
     list: &[u64],
@@ -153,6 +159,7 @@ pub extern "C" fn undrelvoa_step(
 }
 
 #[unsafe(no_mangle)]
+#[tactic(auto, using(undrelvoa_faults::proofs::Passed::lengths_passed), unfolding(crate::specs::Buffers::after, crate::specs::Buffers::after_labelled))]
 pub extern "C" fn undrelvoa_labelled_run(
     settings: &[u64],
     list: &[u64],
@@ -206,6 +213,7 @@ pub extern "C" fn undrelvoa_labelled_run(
 }
 
 #[unsafe(no_mangle)]
+#[tactic(auto, using(undrelvoa_faults::proofs::Passed::lengths_passed), unfolding(crate::specs::Buffers::after, crate::specs::Buffers::after_labelled))]
 pub extern "C" fn undrelvoa_labelled_step(
     settings: &[u64],
     list: &[u64],
@@ -257,6 +265,7 @@ pub extern "C" fn undrelvoa_labelled_step(
 }
 
 #[unsafe(no_mangle)]
+#[tactic(auto, using(undrelvoa_faults::proofs::Passed::lengths_passed), unfolding(crate::specs::Buffers::after, crate::specs::Buffers::after_speculation))]
 pub extern "C" fn undrelvoa_speculative_run(
     settings: &[u64],
     list: &[u64],
@@ -314,6 +323,7 @@ pub extern "C" fn undrelvoa_speculative_run(
 }
 
 #[unsafe(no_mangle)]
+#[tactic(auto, using(undrelvoa_faults::proofs::Passed::report_passed), unfolding(crate::specs::Buffers::after_counting))]
 pub extern "C" fn undrelvoa_count_secrets(
     unique_labels: &[u8],
     register_labels: &[u8],
@@ -345,6 +355,7 @@ pub extern "C" fn undrelvoa_count_secrets(
 }
 
 #[unsafe(no_mangle)]
+#[tactic(auto, using(undrelvoa_faults::proofs::Passed::place_passed), unfolding(crate::specs::Answers::place_words))]
 pub extern "C" fn undrelvoa_show<'a>(
     unique: &'a [u8],
     register: &'a [u8],

@@ -19,7 +19,7 @@ const NO_ADDRESS: u64 = 0;
 const SETTINGS_WORDS: usize = 5;
 
 // Words of a place: space, offset, number of bytes.
-const PLACE_WORDS: usize = 3;
+pub const PLACE_WORDS: usize = 3;
 
 // undrelvoa_value
 #[tactic(auto, unfolding(crate::specs::Faults::value_fault))]
