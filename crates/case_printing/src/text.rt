@@ -116,7 +116,7 @@ fn put_bytes<const N: usize>(out: &mut ArrayVec<u8, N>, bytes: &[u8])
     }
 }
 
-// The last hexadecimal digits of n, as many as are asked.
+// The last hexadecimal digits of n, as many as are asked. By hand: no proof learns that a `write!` into the room did not fail.
 fn put_hex<const N: usize>(out: &mut ArrayVec<u8, N>, n: u64, digits: usize)
     requires { (digits ≤ word_digits) × (array_vec_len out.old + digits ≤ N) }
     ensures appended { Appended out.old.items (hex_text digits n) out.new.items }
