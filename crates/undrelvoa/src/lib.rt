@@ -13,8 +13,9 @@ ghost use Rattle.undrelvoa.specs.Calls.{AnswerPromise, BuffersPromise, LabelledB
 ghost use Rattle.undrelvoa.specs.Calls.{ReportAnswerPromise, CountingBuffersPromise};
 ghost use Rattle.undrelvoa.specs.Answers.{verdict_words, shown_length, place_words};
 
-use operation::layout::Lengths;
+use operation::layout::{Lengths, Spaces};
 use undrelvoa_faults::{of_gather, of_lengths, of_place, of_report, of_scatter, of_value};
+use word::bytes::{gather, scatter};
 use words::{settings_in, write_place, write_report};
 
 mod words;
@@ -55,7 +56,7 @@ pub extern "C" fn undrelvoa_gather(
     if let Err(fault) = of_gather(order, bytes.len(), offset, size, out.len()) {
         return fault.number();
     }
-    out[0] = value_of(order == 1, bytes, offset as usize, size as usize);
+    out[0] = gather(order == 1, bytes, offset as usize, size as usize);
     0
 }
 
@@ -74,7 +75,7 @@ pub extern "C" fn undrelvoa_scatter(
     if let Err(fault) = of_scatter(order, bytes.len(), offset, size, value) {
         return fault.number();
     }
-    store(order == 1, bytes, offset as usize, size as usize, value);
+    scatter(order == 1, bytes, offset as usize, size as usize, value);
     0
 }
 
@@ -96,9 +97,9 @@ pub extern "C" fn undrelvoa_validate(
     }
     let settings = settings_in(settings);
     let lengths = Lengths {
-        unique: unique,
-        register: register,
-        ram: ram,
+        unique,
+        register,
+        ram,
     };
     let verdict = interpreter::validate(settings, lengths, list);
     write_report(report, verdict);
@@ -127,7 +128,12 @@ pub extern "C" fn undrelvoa_run(
         return fault.number();
     }
     let settings = settings_in(settings);
-    let ran = interpreter::run(settings, list, start, budget, unique, register, ram, log);
+    let mut memory = Spaces {
+        unique,
+        register,
+        ram,
+    };
+    let ran = interpreter::run(settings, list, start, budget, &mut memory, log);
     write_report(report, ran);
     0
 }
@@ -153,7 +159,12 @@ pub extern "C" fn undrelvoa_step(
         return fault.number();
     }
     let settings = settings_in(settings);
-    let ran = interpreter::step(settings, list, start, unique, register, ram, log);
+    let mut memory = Spaces {
+        unique,
+        register,
+        ram,
+    };
+    let ran = interpreter::step(settings, list, start, &mut memory, log);
     write_report(report, ran);
     0
 }
@@ -192,20 +203,29 @@ pub extern "C" fn undrelvoa_labelled_run(
         return fault.number();
     }
     let settings = settings_in(settings);
+    let mut memory = Spaces {
+        unique,
+        register,
+        ram,
+    };
+    let mut labels = Spaces {
+        unique: unique_labels,
+        register: register_labels,
+        ram: ram_labels,
+    };
+    let mut counts = Spaces {
+        unique: unique_counts,
+        register: register_counts,
+        ram: ram_counts,
+    };
     let ran = interpreter::labelled_run(
         settings,
         list,
         start,
         budget,
-        unique,
-        register,
-        ram,
-        unique_labels,
-        register_labels,
-        ram_labels,
-        unique_counts,
-        register_counts,
-        ram_counts,
+        &mut memory,
+        &mut labels,
+        &mut counts,
         log,
     );
     write_report(report, ran);
@@ -245,19 +265,28 @@ pub extern "C" fn undrelvoa_labelled_step(
         return fault.number();
     }
     let settings = settings_in(settings);
+    let mut memory = Spaces {
+        unique,
+        register,
+        ram,
+    };
+    let mut labels = Spaces {
+        unique: unique_labels,
+        register: register_labels,
+        ram: ram_labels,
+    };
+    let mut counts = Spaces {
+        unique: unique_counts,
+        register: register_counts,
+        ram: ram_counts,
+    };
     let ran = interpreter::labelled_step(
         settings,
         list,
         start,
-        unique,
-        register,
-        ram,
-        unique_labels,
-        register_labels,
-        ram_labels,
-        unique_counts,
-        register_counts,
-        ram_counts,
+        &mut memory,
+        &mut labels,
+        &mut counts,
         log,
     );
     write_report(report, ran);
@@ -300,21 +329,30 @@ pub extern "C" fn undrelvoa_speculative_run(
         return fault.number();
     }
     let settings = settings_in(settings);
+    let mut memory = Spaces {
+        unique,
+        register,
+        ram,
+    };
+    let mut labels = Spaces {
+        unique: unique_labels,
+        register: register_labels,
+        ram: ram_labels,
+    };
+    let mut counts = Spaces {
+        unique: unique_counts,
+        register: register_counts,
+        ram: ram_counts,
+    };
     let ran = interpreter::speculative_run(
         settings,
         list,
         start,
         budget,
         window,
-        unique,
-        register,
-        ram,
-        unique_labels,
-        register_labels,
-        ram_labels,
-        unique_counts,
-        register_counts,
-        ram_counts,
+        &mut memory,
+        &mut labels,
+        &mut counts,
         log,
         journal,
     );
@@ -342,14 +380,17 @@ pub extern "C" fn undrelvoa_count_secrets(
     if let Err(fault) = of_report(report.len()) {
         return fault.number();
     }
-    let counted = interpreter::count_secrets(
-        unique_labels,
-        register_labels,
-        ram_labels,
-        unique_counts,
-        register_counts,
-        ram_counts,
-    );
+    let labels = Spaces {
+        unique: unique_labels,
+        register: register_labels,
+        ram: ram_labels,
+    };
+    let mut counts = Spaces {
+        unique: unique_counts,
+        register: register_counts,
+        ram: ram_counts,
+    };
+    let counted = interpreter::count_secrets(labels, &mut counts);
     write_report(report, counted);
     0
 }
@@ -374,30 +415,6 @@ pub extern "C" fn undrelvoa_show<'a>(
     let shown = shown_length(unique, register, ram, space, offset, size);
     write_place(place, space, offset, shown);
     0
-}
-
-// The value of some bytes. The order is a constant of each call: so `gather` is compiled into it, as into the readers of a run.
-fn value_of(big: bool, bytes: &[u8], at: usize, size: usize) -> u64
-    requires { (size ≤ 8) × (at + size ≤ length bytes.now) }
-    ensures { result ≡ value_of big (part bytes.now at size) }
-{
-    if big {
-        word::bytes::gather(true, bytes, at, size)
-    } else {
-        word::bytes::gather(false, bytes, at, size)
-    }
-}
-
-// Stores the bytes of a value, in the same way: as the one writer of a run does, which is compiled into the run and has no second caller.
-fn store(big: bool, bytes: &mut [u8], at: usize, size: usize, value: u64)
-    requires { (size ≤ 8) × (at + size ≤ length bytes.old) }
-    ensures { bytes.new ≡ sets bytes.old at (bytes_of big size value) }
-{
-    if big {
-        word::bytes::scatter(true, bytes, at, size, value)
-    } else {
-        word::bytes::scatter(false, bytes, at, size, value)
-    }
 }
 
 // How many bytes are shown.
