@@ -1,6 +1,6 @@
 -- What the operands of an operation satisfy, by the sentence of rule 25 that its opcode falls under.
 use Prim.Native.Nat.{ℕ, ◌+◌, ◌*◌, ◌^◌, ◌≤◌, ◌<◌}
-use mathlib.Core.Bool.{Bool, true, false, cond, ◌&&◌}
+use mathlib.Core.Bool.{Bool, true, cond, ◌&&◌}
 use mathlib.Core.Path.{◌≡◌, refl, sym, subst, ap, ◌∙◌}
 use native.Mathlib.Omega.{arith}
 use native.Mathlib.Nat.{lt_of_lt_of_le}
@@ -29,7 +29,7 @@ pub by_sentence : (s : Sizes) (A size size0 size1 : ℕ)
     (cond (is s pointer) (eqb size1 A)
     (cond (is s indirect) (eqb size0 A)
     (cond (is s condition) (eqb size1 1)
-    (cond (is s free) true false)))))))))) ≡ agree s A size size0 size1
+    (is s free)))))))))) ≡ agree s A size size0 size1
 unfolding agree is number_of
 by_sentence kept A size size0 size1 = refl
 by_sentence equal A size size0 size1 = refl

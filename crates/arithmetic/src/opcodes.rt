@@ -178,10 +178,7 @@ const WITH_INPUT2: u64 = 1 << STORE;
 pub(crate) fn has_bit(set: u64, opcode: u64) -> bool
     ensures { result ≡ eqb (digit 2 set opcode) 1 }
 {
-    if 63 < opcode {
-        return false;
-    }
-    (set >> opcode) % 2 == 1
+    opcode < 64 && (set >> opcode) % 2 == 1
 }
 
 // The operation has a varnode at a place.

@@ -4,7 +4,7 @@ ghost use Rattle.word.specs.Sum.{digit};
 ghost use Rattle.arithmetic.specs.Operands.{divides, sizes_agree};
 
 use super::opcodes::*;
-use integer::boolean::{both, pick_test};
+use integer::boolean::pick;
 
 // The sentences of rule 25, in the definition's order. COPY, INT_2COMP, INT_NEGATE and shifts: input0 = output.
 const SIZE_KEPT: u64 = 1 << COPY
@@ -69,51 +69,48 @@ pub fn is_division(opcode: u64) -> bool
     (INT_DIV <= opcode) & (opcode <= INT_SREM)
 }
 
-// Rule 25 SIZE, a line for each of its sentences, the last one first. The two that most operations fall under are left at
-// once; the others are tests without a branch.
+// Rule 25 SIZE, a line for each of its sentences, the last one first. The two that most operations fall under are told by a
+// branch; the others are tests without one.
 pub fn sizes_agree(address_size: u64, opcode: u64, size: u64, size0: u64, size1: u64) -> bool
     ensures { result ≡ sizes_agree address_size opcode size size0 size1 }
 {
     if has_bit(SIZE_KEPT, opcode) {
-        return size0 == size;
+        size0 == size
+    } else if has_bit(SIZES_EQUAL, opcode) {
+        (size0 == size) & (size1 == size)
+    } else {
+        let free = has_bit(SIZES_FREE, opcode);
+        let condition = sentence(CONDITIONS, opcode, size1 == 1, free);
+        let indirect = sentence(INDIRECT, opcode, size0 == address_size, condition);
+        let pointer = sentence(POINTERS, opcode, size1 == address_size, indirect);
+        let joined = sentence(JOINED, opcode, add_up(size0, size1, size), pointer);
+        let negated = sentence(NEGATED, opcode, (size0 == 1) & (size == 1), joined);
+        let boolean = sentence(
+            BOOLEANS,
+            opcode,
+            (size0 == 1) & (size1 == 1) & (size == 1),
+            negated,
+        );
+        let extended = sentence(EXTENSIONS, opcode, size0 < size, boolean);
+        sentence(
+            COMPARISONS,
+            opcode,
+            (size1 == size0) & (size == 1),
+            extended,
+        )
     }
-    if has_bit(SIZES_EQUAL, opcode) {
-        return both(size0 == size, size1 == size);
-    }
-    let free = sentence(SIZES_FREE, opcode, true, false);
-    let condition = sentence(CONDITIONS, opcode, size1 == 1, free);
-    let indirect = sentence(INDIRECT, opcode, size0 == address_size, condition);
-    let pointer = sentence(POINTERS, opcode, size1 == address_size, indirect);
-    let joined = sentence(JOINED, opcode, add_up(size0, size1, size), pointer);
-    let negated = sentence(NEGATED, opcode, both(size0 == 1, size == 1), joined);
-    let boolean = sentence(
-        BOOLEANS,
-        opcode,
-        both(both(size0 == 1, size1 == 1), size == 1),
-        negated,
-    );
-    let extended = sentence(EXTENSIONS, opcode, size0 < size, boolean);
-    sentence(
-        COMPARISONS,
-        opcode,
-        both(size1 == size0, size == 1),
-        extended,
-    )
 }
 
 // What a sentence asks of the opcodes of its set, and the sentences after it of any other.
 fn sentence(set: u64, opcode: u64, asked: bool, rest: bool) -> bool
     ensures { result ≡ cond (eqb (digit 2 set opcode) 1) asked rest }
 {
-    pick_test(has_bit(set, opcode), asked, rest)
+    pick(has_bit(set, opcode), asked, rest)
 }
 
-// size0 + size1 = size; the sum could wrap, so it is not made.
+// size0 + size1 = size, where the sum does not wrap.
 fn add_up(size0: u64, size1: u64, size: u64) -> bool
     ensures { result ≡ eqb (size0 + size1) size }
 {
-    if size < size0 {
-        return false;
-    }
-    size1 == size - size0
+    size0.checked_add(size1) == Some(size)
 }

@@ -6,8 +6,7 @@ ghost use Rattle.machine.specs.Calls.{labelled_outcome};
 ghost use Rattle.arrayvec.specs.ArrayVec.{array_vec_len};
 ghost use Rattle.case_printing.specs.Appended.{Appended};
 ghost use Rattle.case_printing.specs.Outcome.{memory_text, outcome_text};
-ghost use Rattle.case_reader.specs.Limits.{log_words};
-ghost use Rattle.case_reader.specs.Limits.{Fits};
+ghost use Rattle.case_reader.specs.Limits.{log_words, Fits};
 ghost use Rattle.case_printing.specs.Room.{memory_text_room, output_room};
 
 use crate::text::{

@@ -29,7 +29,7 @@ pub(crate) const DUMP_LENGTH: usize = BYTES_COLUMN + BYTE_DIGITS * BYTES_PER_LIN
 // The bytes of a space that one line shows.
 pub(crate) const BYTES_PER_LINE: usize = 16;
 
-const HEX_DIGITS: [u8; 16] = *b"0123456789abcdef";
+static HEX_DIGITS: [u8; 16] = *b"0123456789abcdef";
 
 // A report on one line: five numbers, each with the character behind it.
 pub fn put_report<const N: usize>(out: &mut ArrayVec<u8, N>, report: Report)
@@ -116,7 +116,7 @@ fn put_bytes<const N: usize>(out: &mut ArrayVec<u8, N>, bytes: &[u8])
     }
 }
 
-// The last hexadecimal digits of n, as many as are asked.
+// The last hexadecimal digits of n, as many as are asked. By hand: no proof learns that a `write!` into the room did not fail.
 fn put_hex<const N: usize>(out: &mut ArrayVec<u8, N>, n: u64, digits: usize)
     requires { (digits ≤ word_digits) × (array_vec_len out.old + digits ≤ N) }
     ensures appended { Appended out.old.items (hex_text digits n) out.new.items }

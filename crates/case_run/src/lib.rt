@@ -8,8 +8,7 @@ ghost use Rattle.machine.specs.Calls.{labelled_run};
 ghost use Rattle.arrayvec.specs.ArrayVec.{array_vec_len};
 ghost use Rattle.case_printing.specs.Appended.{Appended};
 ghost use Rattle.case_printing.specs.Outcome.{outcome_text};
-ghost use Rattle.case_reader.specs.Limits.{log_words, start_index};
-ghost use Rattle.case_reader.specs.Limits.{Fits};
+ghost use Rattle.case_reader.specs.Limits.{log_words, start_index, Fits};
 ghost use Rattle.case_printing.specs.Room.{output_room};
 
 use arrayvec::ArrayVec;
@@ -17,14 +16,15 @@ use case_printing::outcome::put_outcome;
 use case_reader::limits::{COUNTS_ROOM, LOG_WORDS, START_INDEX};
 use interpreter::labelled_run;
 use operation::layout::{Settings, Spaces};
+use run_memory::space::reading;
 
 // Prints what the labelled run leaves.
 pub fn print_run<const N: usize>(
     settings: Settings,
     list: &[u64],
     budget: u32,
-    memory: Spaces<&mut [u8]>,
-    labels: Spaces<&mut [u8]>,
+    mut memory: Spaces<&mut [u8]>,
+    mut labels: Spaces<&mut [u8]>,
     out: &mut ArrayVec<u8, N>,
 )
     requires fits { Fits (lengths_of (lent memory)) }
@@ -33,45 +33,21 @@ pub fn print_run<const N: usize>(
     ensures { Appended out.old.items (outcome_text (labelled_run settings list.now start_index budget (replicate log_words 0)
         (lent labels.entry) (lent memory.entry))) out.new.items }
 {
-    let mut log = [0u64; LOG_WORDS];
-    let mut unique_counts = [0u64; COUNTS_ROOM];
-    let mut register_counts = [0u64; COUNTS_ROOM];
-    let mut ram_counts = [0u64; COUNTS_ROOM];
-    let Spaces {
-        unique,
-        register,
-        ram,
-    } = memory;
-    let Spaces {
-        unique: unique_labels,
-        register: register_labels,
-        ram: ram_labels,
-    } = labels;
+    let mut counts: Spaces<&mut [u64]> = Spaces {
+        unique: &mut [0; COUNTS_ROOM],
+        register: &mut [0; COUNTS_ROOM],
+        ram: &mut [0; COUNTS_ROOM],
+    };
+    let mut log = [0; LOG_WORDS];
     let report = labelled_run(
         settings,
         list,
         START_INDEX,
         budget,
-        unique,
-        register,
-        ram,
-        unique_labels,
-        register_labels,
-        ram_labels,
-        &mut unique_counts,
-        &mut register_counts,
-        &mut ram_counts,
+        &mut memory,
+        &mut labels,
+        &mut counts,
         &mut log,
     );
-    let bytes: Spaces<&[u8]> = Spaces {
-        unique,
-        register,
-        ram,
-    };
-    let label_bytes: Spaces<&[u8]> = Spaces {
-        unique: unique_labels,
-        register: register_labels,
-        ram: ram_labels,
-    };
-    put_outcome(out, report, &log, bytes, label_bytes);
+    put_outcome(out, report, &log, reading(&memory), reading(&labels));
 }

@@ -1,18 +1,8 @@
 -- Laws of Booleans and of tests.
-use Rattle.std.proofs.Common.{◌≡◌, ℕ, ◌<◌, ◌≤◌, Bool, true, false, cond, not, ◌&&◌, ◌||◌, leb, refl, ◌∙◌, arith, lit<, leb-true}
-use mathlib.Core.Bool.{xor}
+use Rattle.std.proofs.Common.{◌≡◌, ℕ, ◌<◌, ◌≤◌, Bool, true, false, cond, ◌&&◌, ◌||◌, leb, refl, ◌∙◌, arith, lit<, leb-true}
+use mir.Val.{bool_byte}
 use Rattle.word.specs.Word.{is_size}
 use Rattle.integer.specs.Operations.{flag}
-
-pub xor_false : (t : Bool) → xor false t ≡ t
-unfolding xor
-xor_false true = refl
-xor_false false = refl
-
-pub xor_true_not : (t : Bool) → xor true (not t) ≡ t
-unfolding xor
-xor_true_not true = refl
-xor_true_not false = refl
 
 pub or_false : (t : Bool) → t || false ≡ t
 or_false true = refl
@@ -34,10 +24,6 @@ both true true e = (refl, refl)
 both true false e = (refl, e)
 both false t e = (e, cc)
 
-pub not-not : (t : Bool) → not (not t) ≡ t
-not-not true = refl
-not-not false = refl
-
 -- neither side of a disjunction that fails
 pub neither : (s t : Bool) → s || t ≡ false → (s ≡ false) × (t ≡ false)
 neither true t e = (e, cc)
@@ -55,6 +41,12 @@ passed false n rest h e = (refl, e)
 -- the answer of a choice, its parts as the definition has them
 pub pick_is : {A : Type 0} {t u : Bool} {r x y a b : A} → r ≡ cond t x y → t ≡ u → x ≡ a → y ≡ b → r ≡ cond u a b
 pick_is e test first second = e ∙ rw (test, first, second) refl
+
+-- a truth value as a word of 0 or 1
+pub flag_is : (t : Bool) → bool_byte t ≡ flag t
+unfolding flag
+flag_is true = refl
+flag_is false = refl
 
 -- a result of a comparison is 0 or 1
 pub flag_lt : (t : Bool) → flag t < 2

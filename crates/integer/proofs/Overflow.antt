@@ -9,7 +9,7 @@ use Rattle.word.proofs.Tests.{leb-agree}
 use Rattle.integer.specs.Integers.{signed, wrap, negative, overflows}
 use Rattle.integer.specs.Operations.{int_sub, int2comp}
 use Rattle.word.proofs.Powers.{size_pos}
-use Rattle.integer.proofs.Booleans.{or_false}
+use Rattle.std.proofs.Math.Bool.{or-false}
 use Rattle.integer.proofs.Whole.{sub_pos, sub_neg}
 use Rattle.integer.proofs.Modular.{wrap-signed, wrap_opposite}
 use Rattle.integer.proofs.TwosComplement.{signed_low, signed_high, wrap_lt}
@@ -50,10 +50,10 @@ overflow_of s x y h = rw (half_suc s h) (by (256 ^ s / 2 - 1) (ltb x y) refl)
         → lt_z (pos x -ℤ pos y) (negsuc n) || le_z (pos (suc n)) (pos x -ℤ pos y) ≡ leb (y + suc n) x || ltb (x + suc n) y
     by n true e =
         let l : x < y = ltb-true x y e in
-        rw (sub_neg x y l, or_false, lt-leb (y + suc n) x (omega arith)) (leb-agree (suc n) (y - 1 - x) (suc (x + suc n)) y (λ k. omega arith) (λ k. omega arith))
+        rw (sub_neg x y l, or-false, lt-leb (y + suc n) x (omega arith)) (leb-agree (suc n) (y - 1 - x) (suc (x + suc n)) y (λ k. omega arith) (λ k. omega arith))
     by n false e =
         let l : y ≤ x = ltb-false x y e in
-        rw (sub_pos x y l, le-ltb (x + suc n) y (omega arith), or_false) (leb-agree (suc n) (x - y) (y + suc n) x (λ k. omega arith) (λ k. omega arith))
+        rw (sub_pos x y l, le-ltb (x + suc n) y (omega arith), or-false) (leb-agree (suc n) (x - y) (y + suc n) x (λ k. omega arith) (λ k. omega arith))
 
 -- ---- signs
 
@@ -93,27 +93,7 @@ applied na nb nc = xor nc na && xor nc nb
 
 -- the difference's sign differs from that of a, and is that of b
 abbrev borrowed : Bool → Bool → Bool → Bool
-borrowed na nb nc = xor nc na && not (xor nc nb)
-
--- what the code answers where the sign of c is that of a, and where it is not
-pub same_sign : (o na nc rest : Bool) → o ≡ xor nc na && rest → beq nc na ≡ true → false ≡ o
-unfolding xor
-same_sign o na nc rest e t = sym (e ∙ rw t)
-
-pub other_sign : (o na nc rest : Bool) → o ≡ xor nc na && rest → beq nc na ≡ false → rest ≡ o
-unfolding xor
-other_sign o na nc rest e t = sym (e ∙ rw t)
-
-pub differs : (p q : Bool) → not (beq p q) ≡ xor p q
-unfolding xor
-differs p q = refl
-
-pub agrees : (p q : Bool) → beq p q ≡ not (xor p q)
-unfolding xor
-agrees true true = refl
-agrees true false = refl
-agrees false true = refl
-agrees false false = refl
+borrowed na nb nc = xor nc na && beq nc nb
 
 -- numbers of different signs carry nothing, and of one sign borrow nothing
 applied_apart : (t u : Bool) → false ≡ applied (not u) (not (not u)) (not t)

@@ -4,12 +4,12 @@ ghost use Rattle.integer.specs.Integers.{signed, wrap, negative, overflows};
 ghost use Rattle.integer.specs.Operations.{int_sext, int_sright, int_sdiv, int_srem};
 
 use super::unsigned::{add, sub};
-use word::size::{largest, low};
+use word::size::{Size, largest, low};
 
 // The two's complement value of x.
-fn value_of(size: u64, x: u64) -> i64
-    requires { (1 ≤ size) × (size ≤ 8) × (x < 256 ^ size) }
-    ensures { result ≡ signed size x }
+fn value_of(size: Size, x: u64) -> i64
+    requires { x < 256 ^ size.bytes }
+    ensures { result ≡ signed size.bytes x }
 {
     let top = largest(size);
     if x <= top / 2 {
@@ -20,103 +20,91 @@ fn value_of(size: u64, x: u64) -> i64
 }
 
 // The number of a size whose two's complement value is z, but for a multiple of 256^size.
-fn wrapped(size: u64, z: i64) -> u64
-    requires { (1 ≤ size) × (size ≤ 8) }
-    ensures { result ≡ wrap size z }
+fn wrapped(size: Size, z: i64) -> u64
+    ensures { result ≡ wrap size.bytes z }
 {
     if z < 0 {
-        largest(size) - low(size, (-1 - z) as u64)
+        largest(size) - low(size.bytes, (-1 - z) as u64)
     } else {
-        low(size, z as u64)
+        low(size.bytes, z as u64)
     }
 }
 
-pub fn less(size: u64, a: u64, b: u64) -> bool
-    requires { (1 ≤ size) × (size ≤ 8) × (a < 256 ^ size) × (b < 256 ^ size) }
-    ensures { result ≡ int_lt (signed size a) (signed size b) }
+pub fn less(size: Size, a: u64, b: u64) -> bool
+    requires { (a < 256 ^ size.bytes) × (b < 256 ^ size.bytes) }
+    ensures { result ≡ int_lt (signed size.bytes a) (signed size.bytes b) }
 {
     value_of(size, a) < value_of(size, b)
 }
 
-pub fn less_equal(size: u64, a: u64, b: u64) -> bool
-    requires { (1 ≤ size) × (size ≤ 8) × (a < 256 ^ size) × (b < 256 ^ size) }
-    ensures { result ≡ int_le (signed size a) (signed size b) }
+pub fn less_equal(size: Size, a: u64, b: u64) -> bool
+    requires { (a < 256 ^ size.bytes) × (b < 256 ^ size.bytes) }
+    ensures { result ≡ int_le (signed size.bytes a) (signed size.bytes b) }
 {
     value_of(size, a) <= value_of(size, b)
 }
 
-pub fn extend(size: u64, size0: u64, a: u64) -> u64
-    requires { (1 ≤ size) × (size ≤ 8) × (1 ≤ size0) × (size0 ≤ 8) × (a < 256 ^ size0) }
-    ensures { result ≡ int_sext size size0 a }
+pub fn extend(size: Size, size0: Size, a: u64) -> u64
+    requires { a < 256 ^ size0.bytes }
+    ensures { result ≡ int_sext size.bytes size0.bytes a }
 {
     wrapped(size, value_of(size0, a))
 }
 
-fn is_negative(size: u64, x: u64) -> bool
-    requires { (1 ≤ size) × (size ≤ 8) × (x < 256 ^ size) }
-    ensures { result ≡ negative (signed size x) }
+fn is_negative(size: Size, x: u64) -> bool
+    requires { x < 256 ^ size.bytes }
+    ensures { result ≡ negative (signed size.bytes x) }
 {
     value_of(size, x) < 0
 }
 
 // The sum of two numbers of one sign has the other sign.
-pub fn carry(size: u64, a: u64, b: u64) -> bool
-    requires { (1 ≤ size) × (size ≤ 8) × (a < 256 ^ size) × (b < 256 ^ size) }
-    ensures { result ≡ overflows size (signed size a +ℤ signed size b) }
+pub fn carry(size: Size, a: u64, b: u64) -> bool
+    requires { (a < 256 ^ size.bytes) × (b < 256 ^ size.bytes) }
+    ensures { result ≡ overflows size.bytes (signed size.bytes a +ℤ signed size.bytes b) }
 {
-    let s = is_negative(size, add(size, a, b));
-    if s == is_negative(size, a) {
-        return false;
-    }
-    s != is_negative(size, b)
+    let s = is_negative(size, add(size.bytes, a, b));
+    (s != is_negative(size, a)) & (s != is_negative(size, b))
 }
 
 // The difference of two numbers of different signs has the sign of the one taken away.
-pub fn borrow(size: u64, a: u64, b: u64) -> bool
-    requires { (1 ≤ size) × (size ≤ 8) × (a < 256 ^ size) × (b < 256 ^ size) }
-    ensures { result ≡ overflows size (signed size a -ℤ signed size b) }
+pub fn borrow(size: Size, a: u64, b: u64) -> bool
+    requires { (a < 256 ^ size.bytes) × (b < 256 ^ size.bytes) }
+    ensures { result ≡ overflows size.bytes (signed size.bytes a -ℤ signed size.bytes b) }
 {
-    let s = is_negative(size, sub(size, a, b));
-    if s == is_negative(size, a) {
-        return false;
-    }
-    s == is_negative(size, b)
+    let s = is_negative(size, sub(size.bytes, a, b));
+    (s != is_negative(size, a)) & (s == is_negative(size, b))
 }
 
-pub fn right(size: u64, a: u64, b: u64) -> u64
-    requires { (1 ≤ size) × (size ≤ 8) × (a < 256 ^ size) }
-    ensures { result ≡ int_sright size a b }
+pub fn right(size: Size, a: u64, b: u64) -> u64
+    requires { a < 256 ^ size.bytes }
+    ensures { result ≡ int_sright size.bytes a b }
 {
     let z = value_of(size, a);
-    if b < 8 * size {
-        return wrapped(size, z >> b);
+    if b < 8 * size.bytes {
+        wrapped(size, z >> b)
+    } else if z < 0 {
+        largest(size)
+    } else {
+        0
     }
-    if z < 0 { largest(size) } else { 0 }
 }
 
-// The least 64-bit number by -1 is the one quotient that does not fit; smaller sizes wrap.
-pub fn div(size: u64, a: u64, b: u64) -> u64
-    requires { (1 ≤ size) × (size ≤ 8) × (a < 256 ^ size) × (b < 256 ^ size) × (0 < b) }
-    ensures { result ≡ int_sdiv size a b }
+// The least 64-bit number by -1 is the one quotient that does not fit; `wrapping_div` gives that number again.
+pub fn div(size: Size, a: u64, b: u64) -> u64
+    requires { (a < 256 ^ size.bytes) × (b < 256 ^ size.bytes) × (0 < b) }
+    ensures { result ≡ int_sdiv size.bytes a b }
 {
     let p = value_of(size, a);
     let q = value_of(size, b);
-    if q == -1 {
-        if p == -9223372036854775808 {
-            return a;
-        }
-    }
-    wrapped(size, p / q)
+    wrapped(size, p.wrapping_div(q))
 }
 
-pub fn rem(size: u64, a: u64, b: u64) -> u64
-    requires { (1 ≤ size) × (size ≤ 8) × (a < 256 ^ size) × (b < 256 ^ size) × (0 < b) }
-    ensures { result ≡ int_srem size a b }
+pub fn rem(size: Size, a: u64, b: u64) -> u64
+    requires { (a < 256 ^ size.bytes) × (b < 256 ^ size.bytes) × (0 < b) }
+    ensures { result ≡ int_srem size.bytes a b }
 {
     let p = value_of(size, a);
     let q = value_of(size, b);
-    if q == -1 {
-        return 0;
-    }
-    wrapped(size, p % q)
+    wrapped(size, p.wrapping_rem(q))
 }

@@ -12,8 +12,7 @@ use Rattle.operation.specs.Spaces.{Lengths}
 use Rattle.operation.specs.declared.report.Report.{Report}
 use Rattle.operation.specs.Layout.{operation_count, opcode_at, varnode_at}
 use Rattle.operation.specs.Rules.{breaks_head, breaks_shape_at, breaks_place, breaks_range, breaks_size, breaks_target}
-use Rattle.validation.specs.declared.Malformed.{Malformed}
-use Rattle.validation.specs.Verdict.{settings_in_range, lengths_in_range, any_place, size_or_target, lowest_rule, first_malformed, malformed, refusal_report}
+use Rattle.validation.specs.Verdict.{Malformed, settings_in_range, lengths_in_range, any_place, size_or_target, lowest_rule, first_malformed, malformed, refusal_report}
 use Rattle.machine.specs.Calls.{refusal}
 use Rattle.machine.proofs.Cases.{either}
 

@@ -1,5 +1,5 @@
 -- What the slices of the three spaces hold.
-use Rattle.std.specs.Prelude.{ℕ, List, ◌≡◌}
+use Rattle.std.specs.Prelude.{ℕ, List, ◌≡◌, length}
 use Rattle.std.specs.Borrow.{Bor, MutBor}
 use Rattle.operation.specs.declared.layout.Spaces.{Spaces}
 use Rattle.machine.specs.Memory.{Memory, spaces}
@@ -12,8 +12,13 @@ held s = spaces s.unique.now s.register.now s.ram.now
 abbrev pub lent : Spaces (MutBor (List ℕ)) → Memory
 lent s = spaces s.unique.now s.register.now s.ram.now
 
--- They are the same buffers still, whatever they hold.
+-- It is the same buffer still, whatever it holds.
+pub record SameBuffer (before after : MutBor (List ℕ)) : Type 0 where
+  pub reference : after.ghost_name ≡ before.ghost_name
+  pub size : length after.now ≡ length before.now
+
+-- So are all three.
 pub record SameBuffers (before after : Spaces (MutBor (List ℕ))) : Type 0 where
-  pub unique : after.unique.ghost_name ≡ before.unique.ghost_name
-  pub register : after.register.ghost_name ≡ before.register.ghost_name
-  pub ram : after.ram.ghost_name ≡ before.ram.ghost_name
+  pub unique : SameBuffer before.unique after.unique
+  pub register : SameBuffer before.register after.register
+  pub ram : SameBuffer before.ram after.ram

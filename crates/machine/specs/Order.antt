@@ -4,8 +4,7 @@ use Rattle.std.specs.Prelude.{ℕ, ◌≤◌, ◌<◌, Bool, true, false, ◌&&�
 use Rattle.operation.specs.declared.layout.Settings.{Settings}
 use Rattle.operation.specs.Spaces.{Lengths}
 use Rattle.operation.specs.Layout.{operation_count}
-use Rattle.validation.specs.declared.Malformed.{Malformed}
-use Rattle.validation.specs.Verdict.{settings_in_range, lengths_in_range, malformed, refusal_report}
+use Rattle.validation.specs.Verdict.{Malformed, settings_in_range, lengths_in_range, malformed, refusal_report}
 use Rattle.machine.specs.Calls.{refusal}
 
 -- `fitting` says that no labels and no other lent buffer call for 11, `valid` that no label calls for 12; `found` is the first malformed operation.

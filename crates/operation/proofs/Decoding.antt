@@ -1,24 +1,11 @@
 -- Laws of decoding.
 use Prim.Native.Nat.{ℕ}
 use mathlib.Core.Bool.{Bool, true, false, cond, not, ◌&&◌, ◌||◌, xor}
-use mathlib.Core.Path.{◌≡◌, refl, sym, ap, ◌∙◌}
+use mathlib.Core.Path.{◌≡◌, refl, sym}
 use lib.Dec.{eqb}
 use Rattle.integer.proofs.Booleans.{or_false}
-use Rattle.operation.specs.declared.decode.Decoded.{Decoded}
-use Rattle.operation.specs.declared.decode.Decoded.TheVariants.{Accepted, Fault}
-use Rattle.operation.specs.Layout.{described_by}
 use Rattle.operation.specs.Rules.{describes_varnode, breaks_shape}
-use Rattle.operation.specs.Decoding.{decoded, rule_of}
-
--- what decoding answers, and its number
-pub numbered : (wanted : Bool) (d o : ℕ) {r : Decoded} → r ≡ decoded wanted d o
-    → (r ≡ decoded wanted d o) × (rule_of r ≡ cond (breaks_shape wanted d o) 22 0)
-unfolding decoded rule_of
-numbered wanted d o e = (e, ap rule_of e ∙ by (breaks_shape wanted d o))
-  where
-    by : (t : Bool) → rule_of (cond t Fault (Accepted (described_by d o))) ≡ cond t 22 0
-    by true = refl
-    by false = refl
+use Rattle.operation.specs.Decoding.{decoded}
 
 -- rule 22, for an absent varnode and for a present one
 pub shape_broken : (wanted : Bool) (d o : ℕ)

@@ -71,6 +71,7 @@ pub fn wordsize_of(wordsizes: Wordsizes, space: u64) -> u64
 }
 
 // n, the number of operations of a list; also the index of its end.
+#[tactic(auto, unfolding(crate::specs::Layout::operation_count))]
 pub fn operation_count(list: &[u64]) -> usize
     ensures { result ≡ operation_count list.now }
 {
@@ -78,6 +79,7 @@ pub fn operation_count(list: &[u64]) -> usize
 }
 
 // Word k of operation i.
+#[tactic(auto, unfolding(crate::specs::Layout::word_at))]
 pub(crate) fn word_at(list: &[u64], i: usize, k: usize) -> u64
     requires { words_per_operation * i + k < length list.now }
     ensures { result ≡ word_at list.now i k }
@@ -90,10 +92,11 @@ fn byte(w: u64, k: u8) -> u64
     requires { k < 8 }
     ensures { result ≡ digit 256 w k }
 {
-    (w >> (8 * (k as u64))) % 256
+    (w >> (8 * u64::from(k))) % 256
 }
 
 // Byte k of the head of operation i.
+#[tactic(auto, unfolding(crate::specs::Layout::head_byte))]
 pub(crate) fn head_byte(list: &[u64], i: usize, k: u8) -> u64
     requires { (words_per_operation * i < length list.now) × (k < 8) }
     ensures { result ≡ head_byte list.now i k }
@@ -102,6 +105,7 @@ pub(crate) fn head_byte(list: &[u64], i: usize, k: u8) -> u64
 }
 
 // The number that the spare bytes of the head make.
+#[tactic(auto, unfolding(crate::specs::Layout::spare_at))]
 pub(crate) fn spare_at(list: &[u64], i: usize) -> u64
     requires { words_per_operation * i < length list.now }
     ensures { result ≡ spare_at list.now i }
@@ -110,6 +114,7 @@ pub(crate) fn spare_at(list: &[u64], i: usize) -> u64
 }
 
 // Byte 0 is the opcode.
+#[tactic(auto, unfolding(crate::specs::Layout::opcode_at))]
 pub fn opcode_at(list: &[u64], i: usize) -> u64
     requires { words_per_operation * i < length list.now }
     ensures { result ≡ opcode_at list.now i }
@@ -118,6 +123,7 @@ pub fn opcode_at(list: &[u64], i: usize) -> u64
 }
 
 // No varnode.
+#[tactic(auto, unfolding(crate::specs::Layout::absent))]
 pub fn absent() -> Varnode
     ensures { result ≡ absent }
 {
@@ -129,17 +135,28 @@ pub fn absent() -> Varnode
 }
 
 // A descriptor is space * 16 + size.
+#[tactic(auto, unfolding(crate::specs::Layout::described_by))]
 pub fn described_by(descriptor: u64, offset: u64) -> Varnode
     ensures { result ≡ described_by descriptor offset }
 {
     Varnode {
         space: descriptor / 16,
-        offset: offset,
+        offset,
         size: descriptor % 16,
     }
 }
 
-// The varnode at a place of operation i: 0 is the output's place, the following are the inputs'.
+// The places of an operation's varnodes, which `varnode_at` counts.
+pub const OUTPUT: u8 = 0;
+
+pub const INPUT0: u8 = 1;
+
+pub const INPUT1: u8 = 2;
+
+pub const INPUT2: u8 = 3;
+
+// The varnode at a place of operation i.
+#[tactic(auto, unfolding(crate::specs::Layout::varnode_at, crate::specs::Layout::descriptor_at, crate::specs::Layout::offset_at))]
 pub fn varnode_at(list: &[u64], i: usize, place: u8) -> Varnode
     requires { (words_per_operation * i + words_per_operation ≤ length list.now) × (place ≤ most_inputs) }
     ensures { result ≡ varnode_at list.now i place }

@@ -1,5 +1,6 @@
 // What a call answers: the papers' report, and what its ending can be.
-ghost use Rattle.std.specs.Prelude.{◌≡◌};
+ghost use Rattle.std.specs.Prelude.{◌≡◌, cond, Ok, Err, [], ◌∷◌};
+ghost use Rattle.operation.specs.Numbers.{number_of};
 
 // Why a run ended.
 #[derive(Clone, Copy, PartialEq, Eq)]
@@ -31,6 +32,21 @@ pub enum Refusal {
     Zero = 33,
 }
 
+impl Refusal {
+    // Refuses by this, unless a test holds.
+    pub fn unless(self, holds: bool) -> Result<(), Refusal>
+        ensures { result ≡ cond holds (Ok tt) (Err self) }
+    {
+        if holds { Ok(()) } else { Err(self) }
+    }
+
+    pub fn number(self) -> u64
+        ensures { result ≡ number_of self }
+    {
+        self as u64
+    }
+}
+
 // Numbers of a report.
 pub const REPORT_NUMBERS: usize = 5;
 
@@ -43,15 +59,53 @@ pub struct Report {
     pub value: u64,
 }
 
+// A report in its numbers.
+impl From<Report> for [u64; REPORT_NUMBERS] {
+    ghost from_gives = { λ r numbers. numbers ≡ r.ending ∷ r.index ∷ r.executed ∷ r.logged ∷ r.value ∷ [] };
+
+    fn from(r: Report) -> [u64; REPORT_NUMBERS] {
+        [r.ending, r.index, r.executed, r.logged, r.value]
+    }
+}
+
+// Why nothing ran, and at which operation: index 0, but for an operation that breaks a rule.
+#[derive(Clone, Copy)]
+pub struct Refused {
+    pub why: Refusal,
+    pub index: u64,
+}
+
+impl From<Refusal> for Refused {
+    ghost from_gives = { λ why r. r ≡ record { why = why; index = 0 } };
+
+    fn from(why: Refusal) -> Refused {
+        Refused { why, index: 0 }
+    }
+}
+
+impl From<Refused> for Report {
+    ghost from_gives = { λ r report. report ≡ record { ending = number_of r.why; index = r.index; executed = 0; logged = 0; value = 0 } };
+
+    fn from(refused: Refused) -> Report {
+        Report {
+            ending: refused.why.number(),
+            index: refused.index,
+            executed: 0,
+            logged: 0,
+            value: 0,
+        }
+    }
+}
+
 // The report of a run that has executed operations and written log words.
 pub fn run_report(ending: u64, index: usize, executed: u64, logged: usize, value: u64) -> Report
     ensures { result ≡ record { ending = ending; index = index; executed = executed; logged = logged; value = value } }
 {
     Report {
-        ending: ending,
+        ending,
         index: index as u64,
-        executed: executed,
+        executed,
         logged: logged as u64,
-        value: value,
+        value,
     }
 }

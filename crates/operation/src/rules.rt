@@ -4,97 +4,87 @@ ghost use Rattle.operation.specs.Layout.{words_per_operation};
 ghost use Rattle.operation.specs.Rules.{breaks_head, accesses, branches, jumps, names_space, is_destination, breaks_place, length_of, beyond, breaks_range, breaks_size};
 ghost use Rattle.operation.specs.Rules.{target_outside, breaks_target};
 
-use super::layout::{Lengths, Varnode, by_space, opcode_at, spare_at};
-use arithmetic::opcodes::LAST_OPCODE;
+use super::layout::{
+    CONSTANT, INPUT0, INPUT1, Lengths, OUTPUT, RAM, UNIQUE, Varnode, by_space, opcode_at, spare_at,
+};
+use arithmetic::opcodes::{
+    BRANCH, BRANCHIND, CALL, CALLIND, CBRANCH, LAST_OPCODE, LOAD, RETURN, STORE, SUBPIECE,
+};
 use arithmetic::operands::sizes_agree;
-use integer::boolean::{both, either, pick_test};
 use word::size::{holds, within};
 
 // 21 HEAD.
+#[tactic(auto, unfolding(crate::specs::Rules::breaks_head))]
 pub fn breaks_head(list: &[u64], i: usize) -> bool
     requires { words_per_operation * i < length list.now }
     ensures { result ≡ breaks_head list.now i }
 {
     let opcode = opcode_at(list, i);
-    let spare = spare_at(list, i);
-    either(!both(1 <= opcode, opcode <= LAST_OPCODE), spare != 0)
+    !((1 <= opcode) & (opcode <= LAST_OPCODE)) | (spare_at(list, i) != 0)
 }
 
-// The classes of opcodes, a test a line: so the compiler makes one jump of them and their callers' tests. With `either` it does not.
+// The classes of opcodes, each one `match`: so the compiler makes one jump of them and their callers' tests.
 
-// LOAD, STORE
+#[tactic(auto, unfolding(crate::specs::Rules::accesses, arithmetic::specs::Opcodes::member))]
 pub fn accesses(opcode: u64) -> bool
     ensures { result ≡ accesses opcode }
 {
-    if opcode == 2 {
-        return true;
-    }
-    opcode == 3
+    matches!(opcode, LOAD | STORE)
 }
 
-// BRANCH, CBRANCH, CALL
+#[tactic(auto, unfolding(crate::specs::Rules::branches, arithmetic::specs::Opcodes::member))]
 pub fn branches(opcode: u64) -> bool
     ensures { result ≡ branches opcode }
 {
-    if opcode == 4 {
-        return true;
-    }
-    if opcode == 5 {
-        return true;
-    }
-    opcode == 7
+    matches!(opcode, BRANCH | CBRANCH | CALL)
 }
 
-// BRANCHIND, CALLIND, RETURN
+#[tactic(auto, unfolding(crate::specs::Rules::jumps, arithmetic::specs::Opcodes::member))]
 pub fn jumps(opcode: u64) -> bool
     ensures { result ≡ jumps opcode }
 {
-    if opcode == 6 {
-        return true;
-    }
-    if opcode == 8 {
-        return true;
-    }
-    opcode == 9
+    matches!(opcode, BRANCHIND | CALLIND | RETURN)
 }
 
 // 23 PLACE, of the varnode at a place.
+#[tactic(auto, unfolding(crate::specs::Rules::breaks_place))]
 pub fn breaks_place(opcode: u64, place: u8, v: Varnode) -> bool
     ensures { result ≡ breaks_place opcode place v }
 {
-    if place == 1 {
-        return breaks_input0_place(opcode, v);
+    match place {
+        OUTPUT => v.space == CONSTANT,
+        INPUT0 => breaks_input0_place(opcode, v),
+        INPUT1 => (opcode == SUBPIECE) & (v.space != CONSTANT),
+        _ => false,
     }
-    let space = v.space;
-    let input1 = pick_test(opcode == 11, space != 1, false);
-    let input = pick_test(place == 2, input1, false);
-    pick_test(place == 0, space == 1, input)
 }
 
 // The same of input0.
+#[tactic(auto, unfolding(crate::specs::Rules::breaks_place))]
 fn breaks_input0_place(opcode: u64, v: Varnode) -> bool
     ensures { result ≡ breaks_place opcode 1 v }
 {
     if accesses(opcode) {
-        return !names_space(v);
+        !names_space(v)
+    } else {
+        branches(opcode) & !is_destination(v)
     }
-    pick_test(branches(opcode), !is_destination(v), false)
 }
 
 // A constant 2, 3 or 4.
+#[tactic(auto, unfolding(crate::specs::Rules::names_space))]
 fn names_space(v: Varnode) -> bool
     ensures { result ≡ names_space v }
 {
-    let offset = v.offset;
-    both(both(v.space == 1, 2 <= offset), offset <= 4)
+    (v.space == CONSTANT) & (UNIQUE <= v.offset) & (v.offset <= RAM)
 }
 
 // In space 1 or 4.
+#[tactic(auto, unfolding(crate::specs::Rules::is_destination))]
 fn is_destination(v: Varnode) -> bool
     ensures { result ≡ is_destination v }
 {
-    let space = v.space;
-    either(space == 1, space == 4)
+    matches!(v.space, CONSTANT | RAM)
 }
 
 // The length of a space, by its number; no other number has bytes.
@@ -105,30 +95,28 @@ pub fn length_of(lengths: Lengths, space: u64) -> u64
 }
 
 // A varnode past its space, or a constant that its size does not hold.
+#[tactic(auto, unfolding(crate::specs::Rules::beyond))]
 fn beyond(lengths: Lengths, v: Varnode) -> bool
     ensures { result ≡ beyond lengths v }
 {
-    let space = v.space;
-    if space == 0 {
-        return false;
+    match v.space {
+        0 => false,
+        CONSTANT => !holds(v.size, v.offset),
+        space => !within(v.offset, v.size, length_of(lengths, space)),
     }
-    if space == 1 {
-        return !holds(v.size, v.offset);
-    }
-    !within(v.offset, v.size, length_of(lengths, space))
 }
 
 // 24 RANGE, of the varnode at a place; branch destinations are exempt.
+#[tactic(auto, unfolding(crate::specs::Rules::breaks_range))]
 pub fn breaks_range(lengths: Lengths, opcode: u64, place: u8, v: Varnode) -> bool
     ensures { result ≡ breaks_range lengths opcode place v }
 {
-    if both(place == 1, branches(opcode)) {
-        return false;
-    }
-    beyond(lengths, v)
+    let exempt = (place == INPUT0) & branches(opcode);
+    !exempt && beyond(lengths, v)
 }
 
 // 25 SIZE.
+#[tactic(auto, unfolding(crate::specs::Rules::breaks_size))]
 pub fn breaks_size(address_size: u64, opcode: u64, size: u64, size0: u64, size1: u64) -> bool
     ensures { result ≡ breaks_size address_size opcode size size0 size1 }
 {
@@ -140,19 +128,19 @@ fn target_outside(n: u64, i: u64, offset: u64) -> bool
     requires { i ≤ n }
     ensures { result ≡ target_outside n i offset }
 {
-    if offset < 9223372036854775808 {
-        return n - i < offset;
+    if offset < 1 << 63 {
+        n - i < offset
+    } else {
+        i <= u64::MAX - offset
     }
-    i <= u64::MAX - offset
 }
 
 // 26 TARGET, of the destination of operation i.
+#[tactic(auto, unfolding(crate::specs::Rules::breaks_target))]
 pub fn breaks_target(n: u64, i: u64, opcode: u64, v: Varnode) -> bool
     requires { i ≤ n }
     ensures { result ≡ breaks_target n i opcode v }
 {
-    if both(branches(opcode), v.space == 1) {
-        return target_outside(n, i, v.offset);
-    }
-    false
+    let relative = branches(opcode) & (v.space == CONSTANT);
+    relative && target_outside(n, i, v.offset)
 }

@@ -8,7 +8,8 @@ ghost use Rattle.operation.specs.Layout.{words_per_operation, operation_count, o
 ghost use Rattle.operation.specs.Rules.{accesses};
 ghost use Rattle.validation.specs.Verdict.{settings_in_range};
 ghost use Rattle.machine.specs.Program.{program_of, big_endian};
-ghost use Rattle.machine.specs.Memory.{spaces, lengths_of};
+ghost use Rattle.machine.specs.Memory.{lengths_of};
+ghost use Rattle.machine.specs.Lent.{lent, SameBuffers};
 ghost use Rattle.machine.specs.Effect.{operation_at};
 ghost use Rattle.machine.specs.Run.{run};
 ghost use Rattle.machine.specs.Calls.{outcome_of, labelled_outcome};
@@ -20,11 +21,12 @@ ghost use Rattle.run_execution.specs.Loops.{position};
 ghost use Rattle.run_labelled.specs.Turns.{Fitting, Countable, turn_of, completes, offset_logged, Markable};
 
 use integer::boolean::both;
-use operation::layout::{Settings, opcode_at, operation_count};
+use operation::layout::{Settings, Spaces, opcode_at, operation_count};
 use operation::report::{Report, run_report};
 use operation::rules::accesses;
 use run_execution::{INDEX_WEIGHT, run_from};
 use run_memory::labels::mark;
+use run_memory::space::reading;
 use run_taint::{labels_written, leaks_at, target_at};
 
 // A run from operation `start`, with the first `from` words of the log written before.
@@ -32,34 +34,22 @@ pub fn run_any(
     labelled: bool,
     settings: Settings,
     list: &[u64],
-    unique: &mut [u8],
-    register: &mut [u8],
-    ram: &mut [u8],
-    unique_labels: &mut [u8],
-    register_labels: &mut [u8],
-    ram_labels: &mut [u8],
-    unique_counts: &mut [u64],
-    register_counts: &mut [u64],
-    ram_counts: &mut [u64],
+    memory: &mut Spaces<&mut [u8]>,
+    labels: &mut Spaces<&mut [u8]>,
+    counts: &mut Spaces<&mut [u64]>,
     log: &mut [u64],
     start: usize,
     from: usize,
     budget: u64,
 ) -> Report
-    requires { Valid (lengths_of (spaces unique.old register.old ram.old)) list.now × (start ≤ operation_count list.now) × (from ≤ length log.old)
-        × Fitting labelled (spaces unique_labels.old register_labels.old ram_labels.old) (spaces unique.old register.old ram.old)
+    requires { Valid (lengths_of (lent memory.old)) list.now × (start ≤ operation_count list.now) × (from ≤ length log.old)
+        × Fitting labelled (lent labels.old) (lent memory.old)
         × (settings_in_range settings ≡ true)
-        × Countable labelled (spaces unique_labels.old register_labels.old ram_labels.old)
-        (spaces unique_counts.old register_counts.old ram_counts.old) }
-    ensures { (labelled_outcome result (spaces unique.new register.new ram.new)
-        (spaces unique_labels.new register_labels.new ram_labels.new) log.new
-        ≡ outcome_of log.old (run (program_of settings list.now) budget (position start from 0 log.old)
-        (spaces unique_labels.old register_labels.old ram_labels.old)
-        (spaces unique.old register.old ram.old)))
-        × MovedSpaces low_bit (spaces unique_labels.old register_labels.old ram_labels.old)
-        (spaces unique_labels.new register_labels.new ram_labels.new)
-        (spaces unique_counts.old register_counts.old ram_counts.old)
-        (spaces unique_counts.new register_counts.new ram_counts.new) }
+        × Countable labelled (lent labels.old) (lent counts.old) }
+    ensures same { SameBuffers memory.old memory.new × SameBuffers labels.old labels.new × SameBuffers counts.old counts.new }
+    ensures outcome { labelled_outcome result (lent memory.new) (lent labels.new) log.new
+        ≡ outcome_of log.old (run (program_of settings list.now) budget (position start from 0 log.old) (lent labels.old) (lent memory.old)) }
+    ensures counts { MovedSpaces low_bit (lent labels.old) (lent labels.new) (lent counts.old) (lent counts.new) }
 {
     let most = turn(labelled, budget);
     let mut i = start;
@@ -70,15 +60,9 @@ pub fn run_any(
             labelled,
             settings,
             list,
-            unique,
-            register,
-            ram,
-            unique_labels,
-            register_labels,
-            ram_labels,
-            unique_counts,
-            register_counts,
-            ram_counts,
+            memory,
+            labels,
+            counts,
             log,
             i,
             k,
@@ -109,59 +93,43 @@ fn step_at(
     labelled: bool,
     settings: Settings,
     list: &[u64],
-    unique: &mut [u8],
-    register: &mut [u8],
-    ram: &mut [u8],
-    unique_labels: &mut [u8],
-    register_labels: &mut [u8],
-    ram_labels: &mut [u8],
-    unique_counts: &mut [u64],
-    register_counts: &mut [u64],
-    ram_counts: &mut [u64],
+    memory: &mut Spaces<&mut [u8]>,
+    labels: &mut Spaces<&mut [u8]>,
+    counts: &mut Spaces<&mut [u64]>,
     log: &mut [u64],
     i: usize,
     k: usize,
     most: u64,
 ) -> Report
-    requires { Valid (lengths_of (spaces unique.old register.old ram.old)) list.now × (i ≤ operation_count list.now) × (k ≤ length log.old)
-        × Fitting labelled (spaces unique_labels.old register_labels.old ram_labels.old) (spaces unique.old register.old ram.old)
+    requires { Valid (lengths_of (lent memory.old)) list.now × (i ≤ operation_count list.now) × (k ≤ length log.old)
+        × Fitting labelled (lent labels.old) (lent memory.old)
         × (labelled ≡ true → most ≤ 1) × (settings_in_range settings ≡ true)
-        × Countable labelled (spaces unique_labels.old register_labels.old ram_labels.old)
-        (spaces unique_counts.old register_counts.old ram_counts.old) }
-    ensures { (labelled_outcome result (spaces unique.new register.new ram.new)
-        (spaces unique_labels.new register_labels.new ram_labels.new) log.new
-        ≡ outcome_of log.old (run (program_of settings list.now) most (position i k 0 log.old)
-        (spaces unique_labels.old register_labels.old ram_labels.old)
-        (spaces unique.old register.old ram.old)))
-        × MovedSpaces low_bit (spaces unique_labels.old register_labels.old ram_labels.old)
-        (spaces unique_labels.new register_labels.new ram_labels.new)
-        (spaces unique_counts.old register_counts.old ram_counts.old)
-        (spaces unique_counts.new register_counts.new ram_counts.new) }
+        × Countable labelled (lent labels.old) (lent counts.old) }
+    ensures same { SameBuffers memory.old memory.new × SameBuffers labels.old labels.new × SameBuffers counts.old counts.new }
+    ensures outcome { labelled_outcome result (lent memory.new) (lent labels.new) log.new
+        ≡ outcome_of log.old (run (program_of settings list.now) most (position i k 0 log.old) (lent labels.old) (lent memory.old)) }
+    ensures counts { MovedSpaces low_bit (lent labels.old) (lent labels.new) (lent counts.old) (lent counts.new) }
 {
+    // What the buffers hold are bytes, as `reading` says.
+    let _bytes = reading(memory);
     let leak = leaks_within(
         labelled,
         list,
-        unique_labels,
-        register_labels,
-        ram_labels,
+        labels,
         i,
         most,
     );
     if leak {
         return run_report(31, i, 0, k, 0);
     }
-    let done = run_from(settings, list, unique, register, ram, log, i, k, most);
+    let done = run_from(settings, list, memory, log, i, k, most);
     let completed = completes(labelled, done.executed, done.ending);
     mark_after(
         completed,
         settings,
         list,
-        unique_labels,
-        register_labels,
-        ram_labels,
-        unique_counts,
-        register_counts,
-        ram_counts,
+        labels,
+        counts,
         log,
         i,
         k,
@@ -170,22 +138,20 @@ fn step_at(
 }
 
 // LEAK at operation i, where a labelled turn has an operation to run.
-fn leaks_within<'a>(
+fn leaks_within(
     labelled: bool,
     list: &[u64],
-    unique: &'a [u8],
-    register: &'a [u8],
-    ram: &'a [u8],
+    labels: &Spaces<&mut [u8]>,
     i: usize,
     most: u64,
 ) -> bool
-    requires { (labelled ≡ true → Valid (lengths_of (spaces unique.now register.now ram.now)) list.now) × (i ≤ operation_count list.now) }
+    requires { (labelled ≡ true → Valid (lengths_of (lent labels.now)) list.now) × (i ≤ operation_count list.now) }
     ensures { result ≡ labelled && not (eqb most 0) && ltb i (operation_count list.now)
-        && leaks (spaces unique.now register.now ram.now) (operation_at list.now i) }
+        && leaks (lent labels.now) (operation_at list.now i) }
 {
     let asked = both(both(labelled, most != 0), i < operation_count(list));
     if asked {
-        return leaks_at(list, unique, register, ram, i);
+        return leaks_at(list, reading(labels), i);
     }
     false
 }
@@ -202,44 +168,29 @@ fn mark_after(
     completed: bool,
     settings: Settings,
     list: &[u64],
-    unique: &mut [u8],
-    register: &mut [u8],
-    ram: &mut [u8],
-    unique_counts: &mut [u64],
-    register_counts: &mut [u64],
-    ram_counts: &mut [u64],
+    labels: &mut Spaces<&mut [u8]>,
+    counts: &mut Spaces<&mut [u64]>,
     log: &[u64],
     i: usize,
     k: usize,
 )
-    requires { completed ≡ true → Markable (spaces unique.old register.old ram.old) list.now log.now i k
-        × (counts_fit (lengths_of (spaces unique.old register.old ram.old)) (lengths_of (spaces unique_counts.old register_counts.old ram_counts.old)) ≡ true) }
-    ensures { (spaces unique.new register.new ram.new
+    requires { completed ≡ true → Markable (lent labels.old) list.now log.now i k
+        × (counts_fit (lengths_of (lent labels.old)) (lengths_of (lent counts.old)) ≡ true) }
+    ensures same { SameBuffers labels.old labels.new × SameBuffers counts.old counts.new }
+    ensures labels { lent labels.new
         ≡ cond completed
-        (labels_after (big_endian settings) (spaces unique.old register.old ram.old) (operation_at list.now i)
+        (labels_after (big_endian settings) (lent labels.old) (operation_at list.now i)
         (offset_logged (operation_at list.now i) log.now k))
-        (spaces unique.old register.old ram.old))
-        × MovedSpaces low_bit (spaces unique.old register.old ram.old)
-        (spaces unique.new register.new ram.new)
-        (spaces unique_counts.old register_counts.old ram_counts.old)
-        (spaces unique_counts.new register_counts.new ram_counts.new) }
+        (lent labels.old) }
+    ensures counts { MovedSpaces low_bit (lent labels.old) (lent labels.new) (lent counts.old) (lent counts.new) }
 {
     if completed {
         let offset = logged_offset(list, log, i, k);
         let target = target_at(list, i, offset);
         if target.space != 0 {
             let big = settings.order == 1;
-            let labels = labels_written(big, list, unique, register, ram, i, offset);
-            mark(
-                unique,
-                register,
-                ram,
-                unique_counts,
-                register_counts,
-                ram_counts,
-                target,
-                labels,
-            );
+            let word = labels_written(big, list, reading(labels), i, offset);
+            mark(labels, counts, target, word);
         }
     }
 }

@@ -18,8 +18,8 @@ use Rattle.operation.specs.declared.layout.Spaces.{Spaces}
 use Rattle.operation.specs.declared.layout.Settings.{Settings}
 use Rattle.operation.specs.declared.layout.Varnode.{Varnode}
 use Rattle.machine.specs.Program.{big_endian}
-use Rattle.machine.specs.Lent.{SameBuffers}
-use Rattle.machine.specs.Memory.{Memory, spaces, OfBytes, space_of, bytes_at, value_at, with_space, written}
+use Rattle.machine.specs.Lent.{SameBuffer, SameBuffers, lent}
+use Rattle.machine.specs.Memory.{Memory, spaces, OfBytes, lengths_of, space_of, bytes_at, value_at, with_space, written}
 use Rattle.machine.proofs.Cases.{either}
 use Rattle.machine.proofs.Conditions.{each_space}
 use Rattle.operation.specs.Layout.{absent}
@@ -82,8 +82,21 @@ module _ (m : Memory) (v : Varnode) (not2 : v.space ≡ 2 → ⊥) (not3 : v.spa
 
 -- ---- the same buffers, by way of others
 
+pub same_none : {a : Spaces (MutBor (List ℕ))} → SameBuffers a a
+same_none = record { unique = none; register = none; ram = none }
+  where
+    none : {a : MutBor (List ℕ)} → SameBuffer a a
+    none = record { reference = refl; size = refl }
+
 pub same_still : {a b c : Spaces (MutBor (List ℕ))} → SameBuffers a b → SameBuffers b c → SameBuffers a c
-same_still f g = record { unique = g.unique ∙ f.unique; register = g.register ∙ f.register; ram = g.ram ∙ f.ram }
+same_still f g = record { unique = still f.unique g.unique; register = still f.register g.register; ram = still f.ram g.ram }
+  where
+    still : {a b c : MutBor (List ℕ)} → SameBuffer a b → SameBuffer b c → SameBuffer a c
+    still f g = record { reference = g.reference ∙ f.reference; size = g.size ∙ f.size }
+
+pub same_lengths : {a b : Spaces (MutBor (List ℕ))} → SameBuffers a b → lengths_of (lent b) ≡ lengths_of (lent a)
+unfolding lengths_of
+same_lengths f = rw (f.unique.size, f.register.size, f.ram.size) refl
 
 -- ---- the value in the byte order of the settings
 

@@ -2,10 +2,12 @@
 ghost use Rattle.std.specs.Prelude.{◌≡◌, ◌≤◌};
 ghost use Rattle.machine.specs.Memory.{OfBytes, spaces, lengths_of, space_of};
 ghost use Rattle.machine.specs.Lent.{held, lent};
+ghost use Rattle.machine.specs.Recounts.{WordsOf};
 
 use operation::layout::{Lengths, REGISTER, Spaces, UNIQUE};
 
 // The bytes of each space.
+#[tactic(auto, unfolding(machine::specs::Memory::lengths_of))]
 pub fn lengths_of(memory: Spaces<&[u8]>) -> Lengths
     ensures { result ≡ lengths_of (held memory.entry) }
 {
@@ -13,6 +15,18 @@ pub fn lengths_of(memory: Spaces<&[u8]>) -> Lengths
         unique: memory.unique.len() as u64,
         register: memory.register.len() as u64,
         ram: memory.ram.len() as u64,
+    }
+}
+
+// The words of lent counts.
+#[tactic(auto, unfolding(machine::specs::Memory::lengths_of))]
+pub fn words_of(counts: &Spaces<&mut [u64]>) -> Lengths
+    ensures { result ≡ lengths_of (lent counts.now) }
+{
+    Spaces {
+        unique: counts.unique.len() as u64,
+        register: counts.register.len() as u64,
+        ram: counts.ram.len() as u64,
     }
 }
 
@@ -49,7 +63,19 @@ pub fn are_bytes(memory: Spaces<&[u8]>)
     slices_are_bytes(memory.unique, memory.register, memory.ram)
 }
 
+// The same of lent counts.
+pub fn are_words(counts: &Spaces<&mut [u64]>)
+    ensures { WordsOf (lent counts.now) }
+{
+    slices_are_words(counts.unique, counts.register, counts.ram)
+}
+
 fn slices_are_bytes(unique: &[u8], register: &[u8], ram: &[u8])
     ensures { OfBytes (spaces unique.now register.now ram.now) }
+{
+}
+
+fn slices_are_words(unique: &[u64], register: &[u64], ram: &[u64])
+    ensures { WordsOf (spaces unique.now register.now ram.now) }
 {
 }

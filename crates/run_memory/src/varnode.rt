@@ -10,8 +10,8 @@ use super::space::space_of;
 use operation::layout::{RAM, REGISTER, Spaces, UNIQUE, Varnode};
 use word::bytes::{gather, scatter};
 
-// The value of a varnode, of which the bytes make a number in a byte order; an absent one has 0, a constant its offset. The order is a
-// constant of each call, by which a read of a usual size becomes one load. The plan reads at three places, and this is compiled into each.
+// The value of a varnode, of which the bytes make a number in a byte order; an absent one has 0, a constant its offset. The plan reads at
+// three places, and this is compiled into each.
 #[inline(always)]
 pub fn value_at(big: bool, memory: Spaces<&[u8]>, v: Varnode) -> u64
     requires { Placed (held memory) v }
@@ -21,13 +21,7 @@ pub fn value_at(big: bool, memory: Spaces<&[u8]>, v: Varnode) -> u64
         return v.offset;
     }
     let bytes = space_of(memory, v.space);
-    let at = v.offset as usize;
-    let size = v.size as usize;
-    if big {
-        gather(true, bytes, at, size)
-    } else {
-        gather(false, bytes, at, size)
-    }
+    gather(big, bytes, v.offset as usize, v.size as usize)
 }
 
 // Writes a value to a varnode, in a byte order; to an absent one, nothing. Ram stands first for speed (docs/DECISIONS.md).
@@ -40,21 +34,9 @@ pub fn write(big: bool, memory: &mut Spaces<&mut [u8]>, v: Varnode, value: u64)
     let at = v.offset as usize;
     let size = v.size as usize;
     match v.space {
-        RAM => write_in(big, memory.ram, at, size, value),
-        REGISTER => write_in(big, memory.register, at, size, value),
-        UNIQUE => write_in(big, memory.unique, at, size, value),
+        RAM => scatter(big, memory.ram, at, size, value),
+        REGISTER => scatter(big, memory.register, at, size, value),
+        UNIQUE => scatter(big, memory.unique, at, size, value),
         _ => {}
-    }
-}
-
-// Writes to one space. The order is a constant of each call, as in reading.
-fn write_in(big: bool, bytes: &mut [u8], at: usize, size: usize, value: u64)
-    requires { (size ≤ 8) × (at + size ≤ length bytes.old) }
-    ensures { bytes.new ≡ sets bytes.old at (bytes_of big size value) }
-{
-    if big {
-        scatter(true, bytes, at, size, value)
-    } else {
-        scatter(false, bytes, at, size, value)
     }
 }

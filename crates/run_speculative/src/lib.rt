@@ -6,7 +6,8 @@ ghost use Rattle.secret_counts.specs.Moved.{low_bit};
 ghost use Rattle.operation.specs.Layout.{words_per_operation, operation_count};
 ghost use Rattle.validation.specs.Verdict.{most_operations, settings_in_range};
 ghost use Rattle.machine.specs.Program.{program_of};
-ghost use Rattle.machine.specs.Memory.{spaces, lengths_of};
+ghost use Rattle.machine.specs.Memory.{lengths_of};
+ghost use Rattle.machine.specs.Lent.{lent, SameBuffers};
 ghost use Rattle.machine.specs.Calls.{outcome_of, labelled_outcome};
 ghost use Rattle.machine.specs.Counts.{counts_fit};
 ghost use Rattle.machine.specs.MovedCounts.{MovedSpaces};
@@ -16,10 +17,12 @@ ghost use Rattle.run_execution.specs.Loops.{position};
 ghost use Rattle.run_window.specs.Windows.{Spared};
 ghost use Rattle.run_speculative.specs.Ways.{opens_window, other_index, answer_after};
 
+use arithmetic::opcodes::CBRANCH;
 use integer::boolean::{both, either, pick};
-use operation::layout::{Settings, opcode_at, varnode_at};
+use operation::layout::{CONSTANT, Settings, Spaces, opcode_at, varnode_at};
 use operation::report::{Report, run_report};
 use run_labelled::{run_any, turn};
+use run_memory::space::reading;
 use run_window::open_window;
 use std::num::wrapping_add_u64;
 
@@ -27,35 +30,24 @@ use std::num::wrapping_add_u64;
 pub fn speculate_from(
     settings: Settings,
     list: &[u64],
-    unique: &mut [u8],
-    register: &mut [u8],
-    ram: &mut [u8],
-    unique_labels: &mut [u8],
-    register_labels: &mut [u8],
-    ram_labels: &mut [u8],
-    unique_counts: &mut [u64],
-    register_counts: &mut [u64],
-    ram_counts: &mut [u64],
+    memory: &mut Spaces<&mut [u8]>,
+    labels: &mut Spaces<&mut [u8]>,
+    counts: &mut Spaces<&mut [u64]>,
     log: &mut [u64],
     journal: &mut [u64],
     start: usize,
     budget: u64,
     window: u64,
 ) -> Report
-    requires { Valid (lengths_of (spaces unique.old register.old ram.old)) list.now × (start ≤ operation_count list.now)
-        × (lengths_of (spaces unique_labels.old register_labels.old ram_labels.old) ≡ lengths_of (spaces unique.old register.old ram.old))
+    requires { Valid (lengths_of (lent memory.old)) list.now × (start ≤ operation_count list.now)
+        × (lengths_of (lent labels.old) ≡ lengths_of (lent memory.old))
         × (settings_in_range settings ≡ true) × (journal_words window ≤ length journal.old)
-        × (counts_fit (lengths_of (spaces unique_labels.old register_labels.old ram_labels.old)) (lengths_of (spaces unique_counts.old register_counts.old ram_counts.old)) ≡ true) }
-    ensures { (labelled_outcome result (spaces unique.new register.new ram.new)
-        (spaces unique_labels.new register_labels.new ram_labels.new) log.new
-        ≡ outcome_of log.old (speculate (program_of settings list.now) window budget (position start 0 0 log.old)
-        (spaces unique_labels.old register_labels.old ram_labels.old)
-        (spaces unique.old register.old ram.old)))
-        × Spared window journal.old journal.new
-        × MovedSpaces low_bit (spaces unique_labels.old register_labels.old ram_labels.old)
-        (spaces unique_labels.new register_labels.new ram_labels.new)
-        (spaces unique_counts.old register_counts.old ram_counts.old)
-        (spaces unique_counts.new register_counts.new ram_counts.new) }
+        × (counts_fit (lengths_of (lent labels.old)) (lengths_of (lent counts.old)) ≡ true) }
+    ensures same { SameBuffers memory.old memory.new × SameBuffers labels.old labels.new × SameBuffers counts.old counts.new }
+    ensures outcome { labelled_outcome result (lent memory.new) (lent labels.new) log.new
+        ≡ outcome_of log.old (speculate (program_of settings list.now) window budget (position start 0 0 log.old) (lent labels.old) (lent memory.old)) }
+    ensures journal { Spared window journal.old journal.new }
+    ensures counts { MovedSpaces low_bit (lent labels.old) (lent labels.new) (lent counts.old) (lent counts.new) }
 {
     let most = turn(window != 0, budget);
     let mut i = start;
@@ -65,15 +57,9 @@ pub fn speculate_from(
         let done = speculate_at(
             settings,
             list,
-            unique,
-            register,
-            ram,
-            unique_labels,
-            register_labels,
-            ram_labels,
-            unique_counts,
-            register_counts,
-            ram_counts,
+            memory,
+            labels,
+            counts,
             log,
             journal,
             i,
@@ -94,15 +80,9 @@ pub fn speculate_from(
 fn speculate_at(
     settings: Settings,
     list: &[u64],
-    unique: &mut [u8],
-    register: &mut [u8],
-    ram: &mut [u8],
-    unique_labels: &mut [u8],
-    register_labels: &mut [u8],
-    ram_labels: &mut [u8],
-    unique_counts: &mut [u64],
-    register_counts: &mut [u64],
-    ram_counts: &mut [u64],
+    memory: &mut Spaces<&mut [u8]>,
+    labels: &mut Spaces<&mut [u8]>,
+    counts: &mut Spaces<&mut [u64]>,
     log: &mut [u64],
     journal: &mut [u64],
     i: usize,
@@ -110,34 +90,25 @@ fn speculate_at(
     most: u64,
     window: u64,
 ) -> Report
-    requires { Valid (lengths_of (spaces unique.old register.old ram.old)) list.now × (i ≤ operation_count list.now) × (k ≤ length log.old)
-        × (lengths_of (spaces unique_labels.old register_labels.old ram_labels.old) ≡ lengths_of (spaces unique.old register.old ram.old))
+    requires { Valid (lengths_of (lent memory.old)) list.now × (i ≤ operation_count list.now) × (k ≤ length log.old)
+        × (lengths_of (lent labels.old) ≡ lengths_of (lent memory.old))
         × (settings_in_range settings ≡ true) × ((window == 0) ≡ false → most ≤ 1) × (journal_words window ≤ length journal.old)
-        × (counts_fit (lengths_of (spaces unique_labels.old register_labels.old ram_labels.old)) (lengths_of (spaces unique_counts.old register_counts.old ram_counts.old)) ≡ true) }
-    ensures { (labelled_outcome result (spaces unique.new register.new ram.new)
-        (spaces unique_labels.new register_labels.new ram_labels.new) log.new
-        ≡ outcome_of log.old (speculate (program_of settings list.now) window most (position i k 0 log.old)
-        (spaces unique_labels.old register_labels.old ram_labels.old)
-        (spaces unique.old register.old ram.old)))
-        × Spared window journal.old journal.new
-        × MovedSpaces low_bit (spaces unique_labels.old register_labels.old ram_labels.old)
-        (spaces unique_labels.new register_labels.new ram_labels.new)
-        (spaces unique_counts.old register_counts.old ram_counts.old)
-        (spaces unique_counts.new register_counts.new ram_counts.new) }
+        × (counts_fit (lengths_of (lent labels.old)) (lengths_of (lent counts.old)) ≡ true) }
+    ensures same { SameBuffers memory.old memory.new × SameBuffers labels.old labels.new × SameBuffers counts.old counts.new }
+    ensures outcome { labelled_outcome result (lent memory.new) (lent labels.new) log.new
+        ≡ outcome_of log.old (speculate (program_of settings list.now) window most (position i k 0 log.old) (lent labels.old) (lent memory.old)) }
+    ensures journal { Spared window journal.old journal.new }
+    ensures counts { MovedSpaces low_bit (lent labels.old) (lent labels.new) (lent counts.old) (lent counts.new) }
 {
+    // What the buffers hold are bytes, as `reading` says.
+    let _bytes = reading(memory);
     let done = run_any(
         true,
         settings,
         list,
-        unique,
-        register,
-        ram,
-        unique_labels,
-        register_labels,
-        ram_labels,
-        unique_counts,
-        register_counts,
-        ram_counts,
+        memory,
+        labels,
+        counts,
         log,
         i,
         k,
@@ -150,15 +121,9 @@ fn speculate_at(
     let went = open_window(
         settings,
         list,
-        unique,
-        register,
-        ram,
-        unique_labels,
-        register_labels,
-        ram_labels,
-        unique_counts,
-        register_counts,
-        ram_counts,
+        memory,
+        labels,
+        counts,
         log,
         journal,
         other,
@@ -177,8 +142,8 @@ fn opens_window(list: &[u64], i: usize, window: u64, done: Report) -> bool
         return false;
     }
     let destination = varnode_at(list, i, 1);
-    let leaves = both(done.index == i as u64 + 1, destination.space != 1);
-    both(opcode_at(list, i) == 5, !leaves)
+    let leaves = both(done.index == i as u64 + 1, destination.space != CONSTANT);
+    both(opcode_at(list, i) == CBRANCH, !leaves)
 }
 
 // The way that a CBRANCH does not take, by the index where it goes on or, to exit, stays.

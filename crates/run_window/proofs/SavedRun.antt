@@ -29,6 +29,12 @@ use Rattle.run_journal.proofs.Targets.{target_placed}
 use Rattle.run_window.specs.Windows.{Saved}
 use Rattle.run_window.proofs.Saving.{one_leaves, saved_none, entry_room, saved_step}
 
+-- the entry of what slices hold, where they hold what the buffers hold
+pub entry_from : (program : Program) (i at : ℕ) (journal : List ℕ) {journal' : List ℕ} {held_labels labels held m : Memory} → held_labels ≡ labels → held ≡ m
+    → journal' ≡ sets journal at (words_of (entry_of held_labels held (target_before program held i)))
+    → journal' ≡ sets journal at (words_of (entry_of labels m (target_before program m i)))
+entry_from program i at journal el em h = rw (el, em) at h
+
 -- what is left of the window from here is the whole window, and what was done can be undone
 pub record SavedTurns (program : Program) (window start from : ℕ) (log₀ journal₀ : List ℕ) (labels₀ m₀ : Memory) (i executed k : ℕ) (log journal : List ℕ) (labels m : Memory)
     : Type 0 where
@@ -37,22 +43,18 @@ pub record SavedTurns (program : Program) (window start from : ℕ) (log₀ jour
   pub room : journal_words window ≤ length journal₀
   pub more : executed < window
   pub words : Words program.list
-  pub bytes : OfBytes m
-  pub marks : OfBytes labels
 
-pub saved_begun : (program : Program) (window start from : ℕ) (log journal : List ℕ) (labels m : Memory) → Words program.list → OfBytes m → OfBytes labels
+pub saved_begun : (program : Program) (window start from : ℕ) (log journal : List ℕ) (labels m : Memory) → Words program.list
     → Valid (lengths_of m) program.list × (start ≤ operation_count program.list) × (from ≤ length log) × (lengths_of labels ≡ lengths_of m) × (settings_in_range program.settings ≡ true) × (0 < window)
     × (journal_words window ≤ length journal)
     → SavedTurns program window start from log journal labels m start 0 from log journal labels m
-saved_begun program window start from log journal labels m words bytes marks pre = record {
+saved_begun program window start from log journal labels m words pre = record {
   turning = begun true true program (run program) window start from log labels m pre.4 pre.0 pre.1 pre.2
       (record { lengths = λ t. pre.3; none = λ t. absurd (true≢false t) });
   saved = saved_none window journal labels m pre.3;
   room = pre.6;
   more = pre.5;
   words = words;
-  bytes = bytes;
-  marks = marks;
 }
 
 module _ {program : Program} {window start from : ℕ} {log₀ journal₀ : List ℕ} {labels₀ m₀ : Memory} {i executed k : ℕ} {log journal : List ℕ} {labels m : Memory}
@@ -79,7 +81,7 @@ module _ {program : Program} {window start from : ℕ} {log₀ journal₀ : List
   unfolding turn_of
   one_turn = let h : executed < window = g.more in rw (lt-ltb 0 window (omega arith)) refl
 
-  module _ (journal' : List ℕ)
+  module _ (bytes : OfBytes m) (marks : OfBytes labels) (journal' : List ℕ)
       (ej : journal' ≡ sets journal (entry_words * executed) (words_of (entry_of labels m (target_before program m i)))) (done : Report) (m' labels' : Memory) (log' : List ℕ)
       (e : labelled_outcome done m' labels' log' ≡ outcome_of log (run program 1 (position i k 0 log) labels m)) where
     abbrev r : Ended
@@ -93,17 +95,15 @@ module _ {program : Program} {window start from : ℕ} {log₀ journal₀ : List
         let el : labels' ≡ r.labels = ap (λ (o : Outcome). o.labels) e in
         let em : m' ≡ r.memory = ap (λ (o : Outcome). o.memory) e in
         rw (ee, el, em)
-        (saved_step g.saved g.room g.more (target_before program m i) (target_placed program m i still_valid g.turning.index) journal' ej g.bytes g.marks refl c
-        (one_leaves program (position i k 0 log) labels m g.words g.bytes still_valid g.turning.index))
+        (saved_step g.saved g.room g.more (target_before program m i) (target_placed program m i still_valid g.turning.index) journal' ej bytes marks refl c
+        (one_leaves program (position i k 0 log) labels m g.words bytes still_valid g.turning.index))
 
-    pub saved_next : OfBytes m' → OfBytes labels' → eqb done.ending 2 && ltb (executed + done.executed) window ≡ true
+    pub saved_next : eqb done.ending 2 && ltb (executed + done.executed) window ≡ true
         → SavedTurns program window start from log₀ journal₀ labels₀ m₀ done.index (executed + done.executed) done.logged log' journal' labels' m'
-    saved_next bytes marks p = record {
+    saved_next p = record {
       turning = at_next (run_laws program) g.turning 1 one_turn done m' labels' log' e p;
       saved = saved_on;
       room = g.room;
       more = ltb-true _ _ (both (eqb done.ending 2) _ p).1;
       words = g.words;
-      bytes = bytes;
-      marks = marks;
     }

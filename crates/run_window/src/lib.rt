@@ -6,7 +6,8 @@ ghost use Rattle.secret_counts.specs.Moved.{low_bit};
 ghost use Rattle.operation.specs.Layout.{operation_count};
 ghost use Rattle.validation.specs.Verdict.{settings_in_range};
 ghost use Rattle.machine.specs.Program.{program_of};
-ghost use Rattle.machine.specs.Memory.{spaces, lengths_of};
+ghost use Rattle.machine.specs.Memory.{lengths_of};
+ghost use Rattle.machine.specs.Lent.{lent, SameBuffers};
 ghost use Rattle.machine.specs.Run.{run};
 ghost use Rattle.machine.specs.Calls.{outcome_of, labelled_outcome};
 ghost use Rattle.machine.specs.Counts.{counts_fit};
@@ -18,10 +19,11 @@ ghost use Rattle.run_execution.specs.Loops.{position};
 ghost use Rattle.run_window.specs.Windows.{Spared, Saved, words_marked, window_outcome};
 
 use integer::boolean::both;
-use operation::layout::Settings;
+use operation::layout::{Settings, Spaces};
 use operation::report::{Report, run_report};
 use run_journal::{save, undo};
 use run_labelled::run_any;
+use run_memory::space::{are_words, reading};
 
 // A window log word has this added.
 const WINDOW_MARK: u64 = 9223372036854775808;
@@ -30,48 +32,34 @@ const WINDOW_MARK: u64 = 9223372036854775808;
 pub fn open_window(
     settings: Settings,
     list: &[u64],
-    unique: &mut [u8],
-    register: &mut [u8],
-    ram: &mut [u8],
-    unique_labels: &mut [u8],
-    register_labels: &mut [u8],
-    ram_labels: &mut [u8],
-    unique_counts: &mut [u64],
-    register_counts: &mut [u64],
-    ram_counts: &mut [u64],
+    memory: &mut Spaces<&mut [u8]>,
+    labels: &mut Spaces<&mut [u8]>,
+    counts: &mut Spaces<&mut [u64]>,
     log: &mut [u64],
     journal: &mut [u64],
     start: usize,
     from: usize,
     window: u64,
 ) -> Report
-    requires { Valid (lengths_of (spaces unique.old register.old ram.old)) list.now × (start ≤ operation_count list.now) × (from ≤ length log.old)
-        × (lengths_of (spaces unique_labels.old register_labels.old ram_labels.old) ≡ lengths_of (spaces unique.old register.old ram.old))
+    requires { Valid (lengths_of (lent memory.old)) list.now × (start ≤ operation_count list.now) × (from ≤ length log.old)
+        × (lengths_of (lent labels.old) ≡ lengths_of (lent memory.old))
         × (settings_in_range settings ≡ true) × (0 < window) × (journal_words window ≤ length journal.old)
-        × (counts_fit (lengths_of (spaces unique_labels.old register_labels.old ram_labels.old)) (lengths_of (spaces unique_counts.old register_counts.old ram_counts.old)) ≡ true) }
-    ensures { (labelled_outcome result (spaces unique.new register.new ram.new)
-        (spaces unique_labels.new register_labels.new ram_labels.new) log.new
-        ≡ window_outcome from log.old (spaces unique_labels.old register_labels.old ram_labels.old)
-        (spaces unique.old register.old ram.old)
-        (ahead (program_of settings list.now) window start (length log.old - from)
-        (spaces unique_labels.old register_labels.old ram_labels.old)
-        (spaces unique.old register.old ram.old)))
-        × Spared window journal.old journal.new
-        × (spaces unique_counts.new register_counts.new ram_counts.new
-        ≡ spaces unique_counts.old register_counts.old ram_counts.old) }
+        × (counts_fit (lengths_of (lent labels.old)) (lengths_of (lent counts.old)) ≡ true) }
+    ensures same { SameBuffers memory.old memory.new × SameBuffers labels.old labels.new × SameBuffers counts.old counts.new }
+    ensures outcome { labelled_outcome result (lent memory.new) (lent labels.new) log.new
+        ≡ window_outcome from log.old (lent labels.old) (lent memory.old)
+        (ahead (program_of settings list.now) window start (length log.old - from) (lent labels.old) (lent memory.old)) }
+    ensures journal { Spared window journal.old journal.new }
+    ensures counts { lent counts.new ≡ lent counts.old }
 {
+    // Counts are given back as they were, since they are words before and after.
+    are_words(counts);
     let went = run_saved(
         settings,
         list,
-        unique,
-        register,
-        ram,
-        unique_labels,
-        register_labels,
-        ram_labels,
-        unique_counts,
-        register_counts,
-        ram_counts,
+        memory,
+        labels,
+        counts,
         log,
         journal,
         start,
@@ -79,18 +67,13 @@ pub fn open_window(
         window,
     );
     undo(
-        unique,
-        register,
-        ram,
-        unique_labels,
-        register_labels,
-        ram_labels,
-        unique_counts,
-        register_counts,
-        ram_counts,
+        memory,
+        labels,
+        counts,
         journal,
         went.executed as usize,
     );
+    are_words(counts);
     mark_words(log, from, went.logged as usize);
     went
 }
@@ -99,38 +82,24 @@ pub fn open_window(
 fn run_saved(
     settings: Settings,
     list: &[u64],
-    unique: &mut [u8],
-    register: &mut [u8],
-    ram: &mut [u8],
-    unique_labels: &mut [u8],
-    register_labels: &mut [u8],
-    ram_labels: &mut [u8],
-    unique_counts: &mut [u64],
-    register_counts: &mut [u64],
-    ram_counts: &mut [u64],
+    memory: &mut Spaces<&mut [u8]>,
+    labels: &mut Spaces<&mut [u8]>,
+    counts: &mut Spaces<&mut [u64]>,
     log: &mut [u64],
     journal: &mut [u64],
     start: usize,
     from: usize,
     window: u64,
 ) -> Report
-    requires { Valid (lengths_of (spaces unique.old register.old ram.old)) list.now × (start ≤ operation_count list.now) × (from ≤ length log.old)
-        × (lengths_of (spaces unique_labels.old register_labels.old ram_labels.old) ≡ lengths_of (spaces unique.old register.old ram.old))
+    requires { Valid (lengths_of (lent memory.old)) list.now × (start ≤ operation_count list.now) × (from ≤ length log.old)
+        × (lengths_of (lent labels.old) ≡ lengths_of (lent memory.old))
         × (settings_in_range settings ≡ true) × (0 < window) × (journal_words window ≤ length journal.old)
-        × (counts_fit (lengths_of (spaces unique_labels.old register_labels.old ram_labels.old)) (lengths_of (spaces unique_counts.old register_counts.old ram_counts.old)) ≡ true) }
-    ensures { (labelled_outcome result (spaces unique.new register.new ram.new)
-        (spaces unique_labels.new register_labels.new ram_labels.new) log.new
-        ≡ outcome_of log.old (run (program_of settings list.now) window (position start from 0 log.old)
-        (spaces unique_labels.old register_labels.old ram_labels.old)
-        (spaces unique.old register.old ram.old)))
-        × Saved window journal.old (spaces unique_labels.old register_labels.old ram_labels.old)
-        (spaces unique.old register.old ram.old) result.executed journal.new
-        (spaces unique_labels.new register_labels.new ram_labels.new)
-        (spaces unique.new register.new ram.new)
-        × MovedSpaces low_bit (spaces unique_labels.old register_labels.old ram_labels.old)
-        (spaces unique_labels.new register_labels.new ram_labels.new)
-        (spaces unique_counts.old register_counts.old ram_counts.old)
-        (spaces unique_counts.new register_counts.new ram_counts.new) }
+        × (counts_fit (lengths_of (lent labels.old)) (lengths_of (lent counts.old)) ≡ true) }
+    ensures same { SameBuffers memory.old memory.new × SameBuffers labels.old labels.new × SameBuffers counts.old counts.new }
+    ensures outcome { labelled_outcome result (lent memory.new) (lent labels.new) log.new
+        ≡ outcome_of log.old (run (program_of settings list.now) window (position start from 0 log.old) (lent labels.old) (lent memory.old)) }
+    ensures saved { Saved window journal.old (lent labels.old) (lent memory.old) result.executed journal.new (lent labels.new) (lent memory.new) }
+    ensures counts { MovedSpaces low_bit (lent labels.old) (lent labels.new) (lent counts.old) (lent counts.new) }
 {
     let mut i = start;
     let mut k = from;
@@ -139,12 +108,8 @@ fn run_saved(
         save(
             settings,
             list,
-            unique,
-            register,
-            ram,
-            unique_labels,
-            register_labels,
-            ram_labels,
+            reading(memory),
+            reading(labels),
             journal,
             i,
             executed as usize,
@@ -153,15 +118,9 @@ fn run_saved(
             true,
             settings,
             list,
-            unique,
-            register,
-            ram,
-            unique_labels,
-            register_labels,
-            ram_labels,
-            unique_counts,
-            register_counts,
-            ram_counts,
+            memory,
+            labels,
+            counts,
             log,
             i,
             k,
@@ -181,9 +140,7 @@ fn mark_words(log: &mut [u64], from: usize, to: usize)
     requires { (from ≤ to) × (to ≤ length log.old) × ((j : ℕ) → j < to - from → get_or log.old (from + j) 0 < window_mark) }
     ensures { log.new ≡ words_marked log.old from to }
 {
-    let mut k = from;
-    while k < to {
-        log[k] = log[k] + WINDOW_MARK;
-        k = k + 1;
+    for k in from..to {
+        log[k] += WINDOW_MARK;
     }
 }

@@ -14,6 +14,9 @@ use Rattle.secret_counts.specs.Moved.{low_bit, secret_weight}
 use Rattle.operation.specs.declared.layout.Settings.{Settings}
 use Rattle.operation.specs.Spaces.{Lengths}
 use Rattle.operation.specs.declared.report.Report.{Report}
+use Rattle.operation.specs.declared.report.Refused.{Refused}
+use Rattle.operation.specs.Numbers.{number_of}
+use Rattle.operation.proofs.Numbers.{positive}
 use Rattle.operation.specs.Layout.{operation_count}
 use Rattle.validation.specs.Verdict.{settings_in_range, lengths_in_range, refusal_report, verdict}
 use Rattle.validation.proofs.WellFormed.{verdict-zero}
@@ -39,6 +42,16 @@ use Rattle.run_plan.specs.Valid.{Valid}
 use Rattle.run_execution.specs.Loops.{position}
 use Rattle.run_labelled.specs.Turns.{Fitting}
 use Rattle.run_window.specs.Windows.{Spared}
+
+-- the ending of a refusal
+pub refused_ending : (r : Refused) {report : Report} → report ≡ refusal_report (number_of r.why) r.index → report.ending ≡ 0 → ⊥
+unfolding refusal_report
+refused_ending r e z = omega (arith, ap (λ (x : Report). x.ending) e, z, positive r.why)
+
+-- of slices that hold what the buffers hold
+pub plain_found : (settings : Settings) (list : List ℕ) (start : ℕ) {held m : Memory} {found : Report} → held ≡ m
+    → found ≡ refusal settings (lengths_of held) list start true true → found ≡ refusal settings (lengths_of m) list start true true
+plain_found settings list start em f = rw em at f
 
 -- where nothing is refused, the loops may run, and no label calls for 11 or 12
 pub accepted : (settings : Settings) (lengths : Lengths) (list : List ℕ) (start : ℕ) (fitting valid : Bool) (found : Report)
@@ -126,12 +139,16 @@ started start log = rw sub-zero refl
 
 -- ---- the labelled run with counts
 
-pub counted_found : (settings : Settings) (list : List ℕ) (start : ℕ) (labels m counts : Memory) (found : Report) (lent : Bool) (lengths words : Lengths)
-    → found ≡ refusal settings (lengths_of m) list start (same_lengths (lengths_of labels) (lengths_of m) && lent) (labels_in_range labels)
-    → lent ≡ counts_fit lengths words → lengths ≡ lengths_of m → words ≡ lengths_of counts → found ≡ counted_refusal settings list start labels m counts
+-- of slices that hold what the buffers hold
+pub counted_found : (settings : Settings) (list : List ℕ) (start : ℕ) (counts : Memory) {held_labels labels held m : Memory} {found : Report} {fitting : Bool} {lengths words : Lengths}
+    → held_labels ≡ labels → held ≡ m
+    → found ≡ refusal settings (lengths_of held) list start (same_lengths (lengths_of held_labels) (lengths_of held) && fitting) (labels_in_range held_labels)
+    → fitting ≡ counts_fit lengths words → lengths ≡ lengths_of held → words ≡ lengths_of counts → found ≡ counted_refusal settings list start labels m counts
 unfolding counted_refusal
-counted_found settings list start labels m counts found lent lengths words f e l w =
-    f ∙ ap (λ (t : Bool). refusal settings (lengths_of m) list start t (labels_in_range labels)) (fits_found (same_lengths (lengths_of labels) (lengths_of m)) lent lengths words m counts e l w)
+counted_found settings list start counts {held_labels = labels₀} {held = m₀} {fitting = fitting} {lengths = lengths} {words = words} el em f e l w =
+    rw (← el, ← em)
+    (f ∙ ap (λ (t : Bool). refusal settings (lengths_of m₀) list start t (labels_in_range labels₀))
+    (fits_found (same_lengths (lengths_of labels₀) (lengths_of m₀)) fitting lengths words m₀ counts e l w))
 
 module _ (settings : Settings) (list : List ℕ) (start budget : ℕ) (log : List ℕ) (labels m counts : Memory) (found : Report) where
   module _ (f : found ≡ counted_refusal settings list start labels m counts) where
@@ -171,14 +188,17 @@ module _ (settings : Settings) (list : List ℕ) (start budget : ℕ) (log : Lis
 
 -- ---- the speculative run with counts
 
-pub counted_found_ahead : (settings : Settings) (list : List ℕ) (start window : ℕ) (journal : List ℕ) (labels m counts : Memory) (found : Report) (lent : Bool) (lengths words : Lengths)
-    → found ≡ speculative_refusal settings (lengths_of m) list start window (length journal) (same_lengths (lengths_of labels) (lengths_of m) && lent) (labels_in_range labels)
-    → lent ≡ counts_fit lengths words → lengths ≡ lengths_of m → words ≡ lengths_of counts
+pub counted_found_ahead : (settings : Settings) (list : List ℕ) (start window : ℕ) (journal : List ℕ) (counts : Memory) {held_labels labels held m : Memory} {found : Report} {fitting : Bool}
+    {lengths words : Lengths} → held_labels ≡ labels → held ≡ m
+    → found ≡ speculative_refusal settings (lengths_of held) list start window (length journal) (same_lengths (lengths_of held_labels) (lengths_of held) && fitting)
+    (labels_in_range held_labels)
+    → fitting ≡ counts_fit lengths words → lengths ≡ lengths_of held → words ≡ lengths_of counts
     → found ≡ counted_speculative_refusal settings list start window journal labels m counts
 unfolding counted_speculative_refusal
-counted_found_ahead settings list start window journal labels m counts found lent lengths words f e l w =
-    f ∙ ap (λ (t : Bool). speculative_refusal settings (lengths_of m) list start window (length journal) t (labels_in_range labels))
-    (fits_found (same_lengths (lengths_of labels) (lengths_of m)) lent lengths words m counts e l w)
+counted_found_ahead settings list start window journal counts {held_labels = labels₀} {held = m₀} {fitting = fitting} {lengths = lengths} {words = words} el em f e l w =
+    rw (← el, ← em)
+    (f ∙ ap (λ (t : Bool). speculative_refusal settings (lengths_of m₀) list start window (length journal) t (labels_in_range labels₀))
+    (fits_found (same_lengths (lengths_of labels₀) (lengths_of m₀)) fitting lengths words m₀ counts e l w))
 
 module _ (settings : Settings) (list : List ℕ) (start budget window : ℕ) (log journal : List ℕ) (labels m counts : Memory) (found : Report) where
   module _ (f : found ≡ counted_speculative_refusal settings list start window journal labels m counts) where

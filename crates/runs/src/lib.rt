@@ -1,19 +1,20 @@
 // The runs with their refusals: crates/interpreter has them as public calls.
 #![tactic(auto)]
 
-ghost use Rattle.machine.specs.Memory.{spaces};
+ghost use Rattle.machine.specs.Lent.{held, lent, SameBuffers};
 ghost use Rattle.runs.specs.Promises.{RunPromise, LabelledRunPromise, SpeculativeRunPromise, CountingPromise};
 
-use operation::layout::Settings;
+use operation::layout::{Settings, Spaces};
 use operation::report::Report;
 use run_journal::clear;
 use run_labelled::run_any;
-use run_memory::space::lengths_of;
+use run_memory::space::{are_words, lengths_of, reading, words_of};
 use run_refusal::{
     counting_refusal, counts_fit, labelled_refusal, plain_refusal, speculative_refusal,
 };
 use run_speculative::speculate_from;
 use secret_counts::fill;
+use validation::refusal_report;
 
 // A run of at most `budget` operations, from operation `start`, without labels: the papers' plain run.
 pub fn run(
@@ -21,38 +22,32 @@ pub fn run(
     list: &[u64],
     start: u64,
     budget: u32,
-    unique: &mut [u8],
-    register: &mut [u8],
-    ram: &mut [u8],
+    memory: &mut Spaces<&mut [u8]>,
     log: &mut [u64],
 ) -> Report
-    ensures { RunPromise settings list.now start budget
-        (spaces unique.old register.old ram.old) log.old
-        (spaces unique.new register.new ram.new) log.new result }
+    ensures same { SameBuffers memory.old memory.new }
+    ensures promise { RunPromise settings list.now start budget (lent memory.old) log.old (lent memory.new) log.new result }
 {
-    let refused = plain_refusal(settings, list, start, unique, register, ram);
-    if refused.ending != 0 {
-        return refused;
+    if let Err(refused) = plain_refusal(settings, list, start, reading(memory)) {
+        return refused.into();
     }
-    let mut unique_labels: [u8; 0] = [];
-    let mut register_labels: [u8; 0] = [];
-    let mut ram_labels: [u8; 0] = [];
-    let mut unique_counts: [u64; 0] = [];
-    let mut register_counts: [u64; 0] = [];
-    let mut ram_counts: [u64; 0] = [];
+    let mut no_labels: Spaces<&mut [u8]> = Spaces {
+        unique: &mut [],
+        register: &mut [],
+        ram: &mut [],
+    };
+    let mut no_counts: Spaces<&mut [u64]> = Spaces {
+        unique: &mut [],
+        register: &mut [],
+        ram: &mut [],
+    };
     run_any(
         false,
         settings,
         list,
-        unique,
-        register,
-        ram,
-        &mut unique_labels,
-        &mut register_labels,
-        &mut ram_labels,
-        &mut unique_counts,
-        &mut register_counts,
-        &mut ram_counts,
+        memory,
+        &mut no_labels,
+        &mut no_counts,
         log,
         start as usize,
         0,
@@ -66,64 +61,36 @@ pub fn labelled_run(
     list: &[u64],
     start: u64,
     budget: u32,
-    unique: &mut [u8],
-    register: &mut [u8],
-    ram: &mut [u8],
-    unique_labels: &mut [u8],
-    register_labels: &mut [u8],
-    ram_labels: &mut [u8],
-    unique_counts: &mut [u64],
-    register_counts: &mut [u64],
-    ram_counts: &mut [u64],
+    memory: &mut Spaces<&mut [u8]>,
+    labels: &mut Spaces<&mut [u8]>,
+    counts: &mut Spaces<&mut [u64]>,
     log: &mut [u64],
 ) -> Report
-    ensures { LabelledRunPromise settings list.now start budget
-        (spaces unique.old register.old ram.old)
-        (spaces unique_labels.old register_labels.old ram_labels.old)
-        (spaces unique_counts.old register_counts.old ram_counts.old) log.old
-        (spaces unique.new register.new ram.new)
-        (spaces unique_labels.new register_labels.new ram_labels.new)
-        (spaces unique_counts.new register_counts.new ram_counts.new) log.new result }
+    ensures same { SameBuffers memory.old memory.new × SameBuffers labels.old labels.new × SameBuffers counts.old counts.new }
+    ensures promise { LabelledRunPromise settings list.now start budget (lent memory.old) (lent labels.old) (lent counts.old) log.old
+        (lent memory.new) (lent labels.new) (lent counts.new) log.new result }
 {
-    let lent = counts_fit(
-        lengths_of(unique, register, ram),
-        unique_counts.len(),
-        register_counts.len(),
-        ram_counts.len(),
-    );
-    let refused = labelled_refusal(
-        settings,
-        list,
-        start,
-        lent,
-        unique,
-        register,
-        ram,
-        unique_labels,
-        register_labels,
-        ram_labels,
-    );
-    if refused.ending != 0 {
-        return refused;
+    let bytes = reading(memory);
+    let marks = reading(labels);
+    let fitting = counts_fit(lengths_of(bytes), words_of(counts));
+    if let Err(refused) = labelled_refusal(settings, list, start, fitting, bytes, marks) {
+        return refused.into();
     }
-    run_any(
+    are_words(counts);
+    let ran = run_any(
         true,
         settings,
         list,
-        unique,
-        register,
-        ram,
-        unique_labels,
-        register_labels,
-        ram_labels,
-        unique_counts,
-        register_counts,
-        ram_counts,
+        memory,
+        labels,
+        counts,
         log,
         start as usize,
         0,
         budget as u64,
-    )
+    );
+    are_words(counts);
+    ran
 }
 
 // A labelled run in which each CBRANCH first tries the way not taken, for at most `window` operations: paper 02's run with a window.
@@ -133,96 +100,60 @@ pub fn speculative_run(
     start: u64,
     budget: u32,
     window: u64,
-    unique: &mut [u8],
-    register: &mut [u8],
-    ram: &mut [u8],
-    unique_labels: &mut [u8],
-    register_labels: &mut [u8],
-    ram_labels: &mut [u8],
-    unique_counts: &mut [u64],
-    register_counts: &mut [u64],
-    ram_counts: &mut [u64],
+    memory: &mut Spaces<&mut [u8]>,
+    labels: &mut Spaces<&mut [u8]>,
+    counts: &mut Spaces<&mut [u64]>,
     log: &mut [u64],
     journal: &mut [u64],
 ) -> Report
-    ensures { SpeculativeRunPromise settings list.now start budget window
-        (spaces unique.old register.old ram.old)
-        (spaces unique_labels.old register_labels.old ram_labels.old)
-        (spaces unique_counts.old register_counts.old ram_counts.old) log.old journal.old
-        (spaces unique.new register.new ram.new)
-        (spaces unique_labels.new register_labels.new ram_labels.new)
-        (spaces unique_counts.new register_counts.new ram_counts.new) log.new journal.new result }
+    ensures same { SameBuffers memory.old memory.new × SameBuffers labels.old labels.new × SameBuffers counts.old counts.new }
+    ensures promise { SpeculativeRunPromise settings list.now start budget window (lent memory.old) (lent labels.old) (lent counts.old)
+        log.old journal.old (lent memory.new) (lent labels.new) (lent counts.new) log.new journal.new result }
 {
-    let lent = counts_fit(
-        lengths_of(unique, register, ram),
-        unique_counts.len(),
-        register_counts.len(),
-        ram_counts.len(),
-    );
-    let refused = speculative_refusal(
+    let bytes = reading(memory);
+    let marks = reading(labels);
+    let fitting = counts_fit(lengths_of(bytes), words_of(counts));
+    let refusal = speculative_refusal(
         settings,
         list,
         start,
         window,
         journal.len(),
-        lent,
-        unique,
-        register,
-        ram,
-        unique_labels,
-        register_labels,
-        ram_labels,
+        fitting,
+        bytes,
+        marks,
     );
-    if refused.ending != 0 {
-        return refused;
+    if let Err(refused) = refusal {
+        return refused.into();
     }
+    are_words(counts);
     let ran = speculate_from(
         settings,
         list,
-        unique,
-        register,
-        ram,
-        unique_labels,
-        register_labels,
-        ram_labels,
-        unique_counts,
-        register_counts,
-        ram_counts,
+        memory,
+        labels,
+        counts,
         log,
         journal,
         start as usize,
         budget as u64,
         window,
     );
+    are_words(counts);
     clear(journal, window as usize);
     ran
 }
 
 // Fills the counts of secret bytes from the labels.
-pub fn count_secrets(
-    unique_labels: &[u8],
-    register_labels: &[u8],
-    ram_labels: &[u8],
-    unique_counts: &mut [u64],
-    register_counts: &mut [u64],
-    ram_counts: &mut [u64],
-) -> Report
-    ensures { CountingPromise (spaces unique_labels.now register_labels.now ram_labels.now)
-        (spaces unique_counts.old register_counts.old ram_counts.old)
-        (spaces unique_counts.new register_counts.new ram_counts.new) result }
+pub fn count_secrets(labels: Spaces<&[u8]>, counts: &mut Spaces<&mut [u64]>) -> Report
+    ensures same { SameBuffers counts.old counts.new }
+    ensures promise { CountingPromise (held labels.entry) (lent counts.old) (lent counts.new) result }
 {
-    let refused = counting_refusal(
-        unique_labels,
-        register_labels,
-        ram_labels,
-        unique_counts.len(),
-        register_counts.len(),
-        ram_counts.len(),
-    );
-    if refused.ending == 0 {
-        fill(unique_labels, unique_counts);
-        fill(register_labels, register_counts);
-        fill(ram_labels, ram_counts);
+    if let Err(refused) = counting_refusal(labels, words_of(counts)) {
+        return refused.into();
     }
-    refused
+    fill(labels.unique, counts.unique);
+    fill(labels.register, counts.register);
+    fill(labels.ram, counts.ram);
+    refusal_report(0, 0)
 }

@@ -1,5 +1,10 @@
 -- Counts filled from labels, block by block.
-use Rattle.std.proofs.Common.{◌≡◌, ℕ, zero, suc, ◌+◌, ◌*◌, ◌<◌, ◌≤◌, min, Bool, true, false, List, [], ◌∷◌, ◌++◌, length, get_or, take, drop, set, sym, refl, ap, ◌∙◌, arith, length-append, take-append-drop, take_all}
+use Rattle.std.proofs.Common.{◌≡◌, ℕ, zero, suc, ◌+◌, ◌*◌, ◌≤◌, min, Bool, not, eqb, true, false, List, [], ◌∷◌, ◌++◌, length, take, drop, set, sym, refl, ap, ◌∙◌, arith, length-append, length-drop, ◌-◌, take-append-drop, take_all}
+use Rattle.std.specs.List.{sum_by}
+use Rattle.std.proofs.lemmas.List.{drop-take, take_min}
+use Rattle.std.proofs.lemmas.List.Recursion.{is_sum_by}
+use mir.Val.{bool_byte}
+use Rattle.integer.proofs.Booleans.{flag_is}
 use lib.Seq.{sets, sets-eq}
 use Rattle.word.specs.Sum.{tabulate}
 use Rattle.word.proofs.Sums.{tabulate-length}
@@ -7,24 +12,12 @@ use Rattle.word.proofs.Stores.{sets-snoc}
 use Rattle.integer.specs.Operations.{flag}
 use Rattle.secret_counts.specs.Recount.{block_bytes, blocks, count_words, is_secret, secrets, block_of, recount, filled}
 
--- ---- the labels of a block, one after the other
+-- ---- the labels of a block
 
--- one more label
-pub secrets_more : (ls : List ℕ) (from i : ℕ) → from ≤ i → i < length ls
-    → secrets (drop from (take (suc i) ls)) ≡ secrets (drop from (take i ls)) + flag (is_secret (get_or ls i 0))
-unfolding secrets
-secrets_more [] from i l h = absurd (let z : ⊥ = omega arith in z)
-secrets_more (x ∷ ls) zero zero l h = omega arith
-secrets_more (x ∷ ls) zero (suc i) l h = omega (arith, secrets_more ls zero i (omega arith) (omega arith))
-secrets_more (x ∷ ls) (suc from) zero l h = absurd (let z : ⊥ = omega arith in z)
-secrets_more (x ∷ ls) (suc from) (suc i) l h = secrets_more ls from i (omega arith) (omega arith)
-
--- none yet
-pub secrets_none : (ls : List ℕ) (from : ℕ) → secrets (drop from (take from ls)) ≡ 0
-unfolding secrets
-secrets_none ls zero = refl
-secrets_none [] (suc from) = refl
-secrets_none (x ∷ ls) (suc from) = secrets_none ls from
+-- the library's sum of the labels that are secret
+pub counted : (ls : List ℕ) → sum_by (λ l. bool_byte (not (eqb l 0))) ls ≡ secrets ls
+unfolding secrets is_secret
+counted ls = sym (is_sum_by secrets (λ l. bool_byte (not (eqb l 0))) refl (λ l ls. ap (λ (n : ℕ). n + secrets ls) (sym (flag_is (not (eqb l 0))))) ls)
 
 take_cut : (n m : ℕ) (ls : List ℕ) → n ≤ m → take n (take m ls) ≡ take n ls
 take_cut zero m ls h = refl
@@ -32,17 +25,14 @@ take_cut (suc n) zero ls h = absurd (let z : ⊥ = omega arith in z)
 take_cut (suc n) (suc m) [] h = refl
 take_cut (suc n) (suc m) (x ∷ ls) h = ap (λ (r : List ℕ). x ∷ r) (take_cut n m ls (omega arith))
 
--- up to where the block or the space ends
-pub block_all : (ls : List ℕ) (b to : ℕ) → to ≡ min (block_bytes * b + block_bytes) (length ls) → drop (block_bytes * b) (take to ls) ≡ block_of ls b
+-- a block ends 64 bytes on, or where the space ends
+pub block_is : (ls : List ℕ) (b to : ℕ) → to ≡ min (length ls) (block_bytes * b + block_bytes)
+    → take (to - block_bytes * b) (drop (block_bytes * b) ls) ≡ block_of ls b
 unfolding block_of
-block_all ls b to e = ap (drop (block_bytes * b)) (ends (block_bytes * b + block_bytes) to ls e)
-  where
-    ends : (m k : ℕ) (l : List ℕ) → k ≡ min m (length l) → take k l ≡ take m l
-    ends zero zero l h = refl
-    ends zero (suc k) l h = absurd (let z : ⊥ = omega (arith, h) in z)
-    ends (suc m) k [] h = let z : k ≡ 0 = omega (arith, h) in rw z
-    ends (suc m) zero (x ∷ l) h = absurd (let z : ⊥ = omega (arith, h) in z)
-    ends (suc m) (suc k) (x ∷ l) h = ap (λ (r : List ℕ). x ∷ r) (ends m k l (omega (arith, h)))
+block_is ls b to e =
+    let n = block_bytes * b in
+    let k : to - n ≡ min block_bytes (length (drop n ls)) = omega (arith, e, length-drop n ls) in
+    rw (k, take_min block_bytes (drop n ls), drop-take n block_bytes ls)
 
 -- ---- the blocks, one after the other
 

@@ -11,6 +11,7 @@ use Rattle.word.proofs.Laws.{bytes-length, bytes_at_lem}
 use Rattle.word.proofs.Shifts.{digit-div, digit_past}
 use Rattle.word.proofs.Sums.{tabulate_is}
 use Rattle.word.proofs.Powers.{size_pos}
+use Rattle.std.specs.Int.{div_ceil}
 use Rattle.secret_counts.specs.Recount.{blocks, count_words}
 use Rattle.secret_counts.specs.Moved.{covers, tally, weigh, low_bit, Moved}
 
@@ -180,6 +181,10 @@ fold x y = omega arith
 cancel : (x n q : ℕ) → n < 2 ^ 64 → (q + x) % 2 ^ 64 ≡ n + q → x % 2 ^ 64 ≡ n
 cancel x n q h e = omega (arith, h, e)
 
+-- a difference of two words, and what was taken away
+pub taken_off : (a b : ℕ) → a < 2 ^ 64 → b < 2 ^ 64 → ((a + (2 ^ 64 - b)) % 2 ^ 64 + b) % 2 ^ 64 ≡ a
+taken_off a b h k = omega (arith, h, k)
+
 -- the far part of what is gained, taken off the whole, leaves the near part
 near_gain : (more far near o n p q : ℕ) → (more + (o + p)) % 2 ^ 64 ≡ n + q → (far + p) % 2 ^ 64 ≡ q → (near + far) % 2 ^ 64 ≡ more → n < 2 ^ 64
     → (near + o) % 2 ^ 64 ≡ n
@@ -212,7 +217,7 @@ module _ (extent at size old new more : ℕ) (counts : List ℕ) (some : 1 ≤ s
 
   -- where the total stands, as the code has it
   abbrev pub last : ℕ
-  last = (extent - 1) / 64 + 1
+  last = div_ceil extent 64
 
   total_is : blocks extent ≡ last
   unfolding blocks

@@ -4,7 +4,6 @@
 ghost use Rattle.std.specs.Prelude.{◌≡◌};
 ghost use Rattle.show.specs.Show.{view, showable, shown_in, shown};
 
-use integer::boolean::both;
 use word::size::{is_size, within};
 
 // The bytes of a varnode, as that very part of its space; an empty part where it has none.
@@ -31,17 +30,18 @@ fn shown_in<'a>(s: &'a [u8], offset: u64, size: u64) -> &'a [u8]
     ensures { view result ≡ shown_in s.entry offset size }
 {
     if showable(s.len(), offset, size) {
+        // Sliced: of `get` a contract tells the bytes, and not the place that `view` names.
         let at = offset as usize;
-        let end = at + size as usize;
-        &s[at..end]
+        &s[at..at + size as usize]
     } else {
         &s[0..0]
     }
 }
 
 // A size of 1 to 8, and a place within a space of n bytes.
+#[tactic(auto, unfolding(crate::specs::Show::showable))]
 fn showable(n: usize, offset: u64, size: u64) -> bool
     ensures { result ≡ showable n offset size }
 {
-    both(is_size(size), within(offset, size, n as u64))
+    is_size(size) & within(offset, size, n as u64)
 }

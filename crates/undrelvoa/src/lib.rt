@@ -13,13 +13,15 @@ ghost use Rattle.undrelvoa.specs.Calls.{AnswerPromise, BuffersPromise, LabelledB
 ghost use Rattle.undrelvoa.specs.Calls.{ReportAnswerPromise, CountingBuffersPromise};
 ghost use Rattle.undrelvoa.specs.Answers.{verdict_words, shown_length, place_words};
 
-use operation::layout::Lengths;
+use operation::layout::{Lengths, Spaces};
 use undrelvoa_faults::{of_gather, of_lengths, of_place, of_report, of_scatter, of_value};
+use word::bytes::{gather, scatter};
 use words::{settings_in, write_place, write_report};
 
 mod words;
 
 #[unsafe(no_mangle)]
+#[tactic(auto, using(undrelvoa_faults::proofs::Passed::value_passed))]
 pub extern "C" fn undrelvoa_value(
     opcode: u64,
     size: u64,
@@ -32,15 +34,15 @@ pub extern "C" fn undrelvoa_value(
     ensures answer { result ≡ value_fault opcode size size0 size1 a b (length out.old) }
     ensures buffer { out.new ≡ cond (eqb result 0) (set out.old 0 (result_of opcode size size0 size1 a b)) out.old }
 {
-    let fault = of_value(opcode, size, size0, size1, a, b, out.len());
-    if fault != 0 {
-        return fault;
+    if let Err(fault) = of_value(opcode, size, size0, size1, a, b, out.len()) {
+        return fault.number();
     }
     out[0] = arithmetic::value(opcode, size, size0, size1, a, b);
     0
 }
 
 #[unsafe(no_mangle)]
+#[tactic(auto, using(undrelvoa_faults::proofs::Passed::gather_passed))]
 pub extern "C" fn undrelvoa_gather(
     order: u64,
     bytes: &[u8],
@@ -51,15 +53,15 @@ pub extern "C" fn undrelvoa_gather(
     ensures answer { result ≡ gather_fault order (length bytes.now) offset size (length out.old) }
     ensures buffer { out.new ≡ cond (eqb result 0) (set out.old 0 (value_of (eqb order 1) (part bytes.now offset size))) out.old }
 {
-    let fault = of_gather(order, bytes.len(), offset, size, out.len());
-    if fault != 0 {
-        return fault;
+    if let Err(fault) = of_gather(order, bytes.len(), offset, size, out.len()) {
+        return fault.number();
     }
-    out[0] = value_of(order == 1, bytes, offset as usize, size as usize);
+    out[0] = gather(order == 1, bytes, offset as usize, size as usize);
     0
 }
 
 #[unsafe(no_mangle)]
+#[tactic(auto, using(undrelvoa_faults::proofs::Passed::scatter_passed))]
 pub extern "C" fn undrelvoa_scatter(
     order: u64,
     bytes: &mut [u8],
@@ -70,15 +72,15 @@ pub extern "C" fn undrelvoa_scatter(
     ensures answer { result ≡ scatter_fault order (length bytes.old) offset size value }
     ensures buffer { bytes.new ≡ cond (eqb result 0) (sets bytes.old offset (bytes_of (eqb order 1) size value)) bytes.old }
 {
-    let fault = of_scatter(order, bytes.len(), offset, size, value);
-    if fault != 0 {
-        return fault;
+    if let Err(fault) = of_scatter(order, bytes.len(), offset, size, value) {
+        return fault.number();
     }
-    store(order == 1, bytes, offset as usize, size as usize, value);
+    scatter(order == 1, bytes, offset as usize, size as usize, value);
     0
 }
 
 #[unsafe(no_mangle)]
+#[tactic(auto, using(undrelvoa_faults::proofs::Passed::lengths_passed), unfolding(crate::specs::Answers::verdict_words))]
 pub extern "C" fn undrelvoa_validate(
     settings: &[u64],
     unique: u64,
@@ -90,15 +92,14 @@ pub extern "C" fn undrelvoa_validate(
     ensures answer { AnswerPromise settings.now report.old result }
     ensures buffer { report.new ≡ cond (eqb result 0) (sets report.old 0 (verdict_words settings.now unique register ram list.now)) report.old }
 {
-    let fault = of_lengths(settings.len(), report.len());
-    if fault != 0 {
-        return fault;
+    if let Err(fault) = of_lengths(settings.len(), report.len()) {
+        return fault.number();
     }
     let settings = settings_in(settings);
     let lengths = Lengths {
-        unique: unique,
-        register: register,
-        ram: ram,
+        unique,
+        register,
+        ram,
     };
     let verdict = interpreter::validate(settings, lengths, list);
     write_report(report, verdict);
@@ -106,6 +107,7 @@ pub extern "C" fn undrelvoa_validate(
 }
 
 #[unsafe(no_mangle)]
+#[tactic(auto, using(undrelvoa_faults::proofs::Passed::lengths_passed), unfolding(crate::specs::Buffers::after))]
 pub extern "C" fn undrelvoa_run(
     settings: &[u64],
     list: &[u64],
@@ -122,17 +124,22 @@ pub extern "C" fn undrelvoa_run(
         (spaces unique.old register.old ram.old) log.old report.old
         (spaces unique.new register.new ram.new) log.new report.new result }
 {
-    let fault = of_lengths(settings.len(), report.len());
-    if fault != 0 {
-        return fault;
+    if let Err(fault) = of_lengths(settings.len(), report.len()) {
+        return fault.number();
     }
     let settings = settings_in(settings);
-    let ran = interpreter::run(settings, list, start, budget, unique, register, ram, log);
+    let mut memory = Spaces {
+        unique,
+        register,
+        ram,
+    };
+    let ran = interpreter::run(settings, list, start, budget, &mut memory, log);
     write_report(report, ran);
     0
 }
 
 #[unsafe(no_mangle)]
+#[tactic(auto, using(undrelvoa_faults::proofs::Passed::lengths_passed), unfolding(crate::specs::Buffers::after))]
 pub extern "C" fn undrelvoa_step(
     settings: &[u64],
     list: &[u64],
@@ -148,17 +155,22 @@ pub extern "C" fn undrelvoa_step(
         (spaces unique.old register.old ram.old) log.old report.old
         (spaces unique.new register.new ram.new) log.new report.new result }
 {
-    let fault = of_lengths(settings.len(), report.len());
-    if fault != 0 {
-        return fault;
+    if let Err(fault) = of_lengths(settings.len(), report.len()) {
+        return fault.number();
     }
     let settings = settings_in(settings);
-    let ran = interpreter::step(settings, list, start, unique, register, ram, log);
+    let mut memory = Spaces {
+        unique,
+        register,
+        ram,
+    };
+    let ran = interpreter::step(settings, list, start, &mut memory, log);
     write_report(report, ran);
     0
 }
 
 #[unsafe(no_mangle)]
+#[tactic(auto, using(undrelvoa_faults::proofs::Passed::lengths_passed), unfolding(crate::specs::Buffers::after, crate::specs::Buffers::after_labelled))]
 pub extern "C" fn undrelvoa_labelled_run(
     settings: &[u64],
     list: &[u64],
@@ -187,25 +199,33 @@ pub extern "C" fn undrelvoa_labelled_run(
         (spaces unique_counts.new register_counts.new ram_counts.new)
         log.new report.new result }
 {
-    let fault = of_lengths(settings.len(), report.len());
-    if fault != 0 {
-        return fault;
+    if let Err(fault) = of_lengths(settings.len(), report.len()) {
+        return fault.number();
     }
     let settings = settings_in(settings);
+    let mut memory = Spaces {
+        unique,
+        register,
+        ram,
+    };
+    let mut labels = Spaces {
+        unique: unique_labels,
+        register: register_labels,
+        ram: ram_labels,
+    };
+    let mut counts = Spaces {
+        unique: unique_counts,
+        register: register_counts,
+        ram: ram_counts,
+    };
     let ran = interpreter::labelled_run(
         settings,
         list,
         start,
         budget,
-        unique,
-        register,
-        ram,
-        unique_labels,
-        register_labels,
-        ram_labels,
-        unique_counts,
-        register_counts,
-        ram_counts,
+        &mut memory,
+        &mut labels,
+        &mut counts,
         log,
     );
     write_report(report, ran);
@@ -213,6 +233,7 @@ pub extern "C" fn undrelvoa_labelled_run(
 }
 
 #[unsafe(no_mangle)]
+#[tactic(auto, using(undrelvoa_faults::proofs::Passed::lengths_passed), unfolding(crate::specs::Buffers::after, crate::specs::Buffers::after_labelled))]
 pub extern "C" fn undrelvoa_labelled_step(
     settings: &[u64],
     list: &[u64],
@@ -240,24 +261,32 @@ pub extern "C" fn undrelvoa_labelled_step(
         (spaces unique_counts.new register_counts.new ram_counts.new)
         log.new report.new result }
 {
-    let fault = of_lengths(settings.len(), report.len());
-    if fault != 0 {
-        return fault;
+    if let Err(fault) = of_lengths(settings.len(), report.len()) {
+        return fault.number();
     }
     let settings = settings_in(settings);
+    let mut memory = Spaces {
+        unique,
+        register,
+        ram,
+    };
+    let mut labels = Spaces {
+        unique: unique_labels,
+        register: register_labels,
+        ram: ram_labels,
+    };
+    let mut counts = Spaces {
+        unique: unique_counts,
+        register: register_counts,
+        ram: ram_counts,
+    };
     let ran = interpreter::labelled_step(
         settings,
         list,
         start,
-        unique,
-        register,
-        ram,
-        unique_labels,
-        register_labels,
-        ram_labels,
-        unique_counts,
-        register_counts,
-        ram_counts,
+        &mut memory,
+        &mut labels,
+        &mut counts,
         log,
     );
     write_report(report, ran);
@@ -265,6 +294,7 @@ pub extern "C" fn undrelvoa_labelled_step(
 }
 
 #[unsafe(no_mangle)]
+#[tactic(auto, using(undrelvoa_faults::proofs::Passed::lengths_passed), unfolding(crate::specs::Buffers::after, crate::specs::Buffers::after_speculation))]
 pub extern "C" fn undrelvoa_speculative_run(
     settings: &[u64],
     list: &[u64],
@@ -295,26 +325,34 @@ pub extern "C" fn undrelvoa_speculative_run(
         (spaces unique_counts.new register_counts.new ram_counts.new)
         log.new journal.new report.new result }
 {
-    let fault = of_lengths(settings.len(), report.len());
-    if fault != 0 {
-        return fault;
+    if let Err(fault) = of_lengths(settings.len(), report.len()) {
+        return fault.number();
     }
     let settings = settings_in(settings);
+    let mut memory = Spaces {
+        unique,
+        register,
+        ram,
+    };
+    let mut labels = Spaces {
+        unique: unique_labels,
+        register: register_labels,
+        ram: ram_labels,
+    };
+    let mut counts = Spaces {
+        unique: unique_counts,
+        register: register_counts,
+        ram: ram_counts,
+    };
     let ran = interpreter::speculative_run(
         settings,
         list,
         start,
         budget,
         window,
-        unique,
-        register,
-        ram,
-        unique_labels,
-        register_labels,
-        ram_labels,
-        unique_counts,
-        register_counts,
-        ram_counts,
+        &mut memory,
+        &mut labels,
+        &mut counts,
         log,
         journal,
     );
@@ -323,6 +361,7 @@ pub extern "C" fn undrelvoa_speculative_run(
 }
 
 #[unsafe(no_mangle)]
+#[tactic(auto, using(undrelvoa_faults::proofs::Passed::report_passed), unfolding(crate::specs::Buffers::after_counting))]
 pub extern "C" fn undrelvoa_count_secrets(
     unique_labels: &[u8],
     register_labels: &[u8],
@@ -338,23 +377,26 @@ pub extern "C" fn undrelvoa_count_secrets(
         (spaces unique_counts.old register_counts.old ram_counts.old) report.old
         (spaces unique_counts.new register_counts.new ram_counts.new) report.new result }
 {
-    let fault = of_report(report.len());
-    if fault != 0 {
-        return fault;
+    if let Err(fault) = of_report(report.len()) {
+        return fault.number();
     }
-    let counted = interpreter::count_secrets(
-        unique_labels,
-        register_labels,
-        ram_labels,
-        unique_counts,
-        register_counts,
-        ram_counts,
-    );
+    let labels = Spaces {
+        unique: unique_labels,
+        register: register_labels,
+        ram: ram_labels,
+    };
+    let mut counts = Spaces {
+        unique: unique_counts,
+        register: register_counts,
+        ram: ram_counts,
+    };
+    let counted = interpreter::count_secrets(labels, &mut counts);
     write_report(report, counted);
     0
 }
 
 #[unsafe(no_mangle)]
+#[tactic(auto, using(undrelvoa_faults::proofs::Passed::place_passed), unfolding(crate::specs::Answers::place_words))]
 pub extern "C" fn undrelvoa_show<'a>(
     unique: &'a [u8],
     register: &'a [u8],
@@ -367,37 +409,12 @@ pub extern "C" fn undrelvoa_show<'a>(
     ensures answer { result ≡ place_fault (length place.old) }
     ensures buffer { place.new ≡ cond (eqb result 0) (sets place.old 0 (place_words unique.now register.now ram.now space offset size)) place.old }
 {
-    let fault = of_place(place.len());
-    if fault != 0 {
-        return fault;
+    if let Err(fault) = of_place(place.len()) {
+        return fault.number();
     }
     let shown = shown_length(unique, register, ram, space, offset, size);
     write_place(place, space, offset, shown);
     0
-}
-
-// The value of some bytes. The order is a constant of each call: so `gather` is compiled into it, as into the readers of a run.
-fn value_of(big: bool, bytes: &[u8], at: usize, size: usize) -> u64
-    requires { (size ≤ 8) × (at + size ≤ length bytes.now) }
-    ensures { result ≡ value_of big (part bytes.now at size) }
-{
-    if big {
-        word::bytes::gather(true, bytes, at, size)
-    } else {
-        word::bytes::gather(false, bytes, at, size)
-    }
-}
-
-// Stores the bytes of a value, in the same way: as the one writer of a run does, which is compiled into the run and has no second caller.
-fn store(big: bool, bytes: &mut [u8], at: usize, size: usize, value: u64)
-    requires { (size ≤ 8) × (at + size ≤ length bytes.old) }
-    ensures { bytes.new ≡ sets bytes.old at (bytes_of big size value) }
-{
-    if big {
-        word::bytes::scatter(true, bytes, at, size, value)
-    } else {
-        word::bytes::scatter(false, bytes, at, size, value)
-    }
 }
 
 // How many bytes are shown.

@@ -5,9 +5,9 @@ ghost use Rattle.operation.specs.Numbers.{report_numbers};
 ghost use Rattle.undrelvoa_faults.specs.Faults.{settings_length, place_length};
 ghost use Rattle.undrelvoa.specs.Buffers.{report_words, settings_in};
 
-use integer::boolean::pick;
 use operation::layout::{Settings, Wordsizes};
-use operation::report::Report;
+use operation::report::{REPORT_NUMBERS, Report};
+use undrelvoa_faults::PLACE_WORDS;
 
 // The settings in their words.
 pub(crate) fn settings_in(words: &[u64]) -> Settings
@@ -30,11 +30,8 @@ pub(crate) fn write_report(words: &mut [u64], report: Report)
     requires { report_numbers ≤ length words.old }
     ensures { words.new ≡ sets words.old 0 (report_words report) }
 {
-    words[0] = report.ending;
-    words[1] = report.index;
-    words[2] = report.executed;
-    words[3] = report.logged;
-    words[4] = report.value;
+    let numbers: [u64; REPORT_NUMBERS] = report.into();
+    words[..REPORT_NUMBERS].copy_from_slice(&numbers);
 }
 
 // Writes the place of a shown part of n bytes; zeros where it is empty.
@@ -42,8 +39,10 @@ pub(crate) fn write_place(words: &mut [u64], space: u64, offset: u64, n: u64)
     requires { place_length ≤ length words.old }
     ensures { words.new ≡ sets words.old 0 (cond (eqb n 0) (0 ∷ 0 ∷ 0 ∷ []) (space ∷ offset ∷ n ∷ [])) }
 {
-    let empty = n == 0;
-    words[0] = pick(empty, 0, space);
-    words[1] = pick(empty, 0, offset);
-    words[2] = n;
+    let place = if n == 0 {
+        [0, 0, 0]
+    } else {
+        [space, offset, n]
+    };
+    words[..PLACE_WORDS].copy_from_slice(&place);
 }

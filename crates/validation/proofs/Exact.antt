@@ -16,8 +16,7 @@ use Rattle.operation.specs.Spaces.{Lengths}
 use Rattle.operation.specs.declared.report.Report.{Report}
 use Rattle.operation.specs.Layout.{operation_count, spare_at, opcode_at, absent, descriptor_at, offset_at, described_by, varnode_at}
 use Rattle.operation.specs.Rules.{branches, breaks_head, breaks_shape, breaks_shape_at, describes_varnode, breaks_place, length_of, beyond, breaks_range, relative_target, target_outside, breaks_target}
-use Rattle.validation.specs.declared.Malformed.{Malformed}
-use Rattle.validation.specs.Verdict.{settings_in_range, lengths_in_range, any_below, any_place, first_malformed, lowest_rule, malformed, refusal_report, size_or_target, verdict}
+use Rattle.validation.specs.Verdict.{Malformed, settings_in_range, lengths_in_range, any_below, any_place, first_malformed, lowest_rule, malformed, refusal_report, size_or_target, verdict}
 use Rattle.validation.specs.WellFormed.{WellFormed}
 use Rattle.validation.specs.Exact.{breaks_rule, FirstBroken, ExactVerdict}
 use Rattle.validation.proofs.Walk.{first_skip, first_start, left_at, left_at_end}
@@ -201,15 +200,19 @@ module _ (a : ℕ) (lengths : Lengths) (list : List ℕ) where
       rw e (sym skip ∙ reached i (omega arith) (λ j l. w j (omega arith)))
 
   all_kept : ((i : ℕ) → i < operation_count list → WellFormed a lengths list i) → record { rule = 0; index = operation_count list } ≡ malformed a lengths list
-  all_kept w = left_at_end a lengths list (operation_count list) 0 (reached (operation_count list) (omega arith) w) refl (omega arith)
+  all_kept w = left_at_end a lengths list (operation_count list) (reached (operation_count list) (omega arith) w) refl
 
-  numbered : (i k : ℕ) → breaks_rule a lengths list i k ≡ true → k ≡ 0 → ⊥
-  numbered i k e z = let n = (ranked a lengths list i).below k (omega arith) in let q : ◌≡◌ {A = ℕ} 0 1 = cc in omega (arith, q)
+  numbered : (i k : ℕ) → breaks_rule a lengths list i k ≡ true → 0 < k
+  numbered i k e = by (eqb k 0) refl
+    where
+      by : (t : Bool) → eqb k 0 ≡ t → 0 < k
+      by true t = let z : k ≡ 0 = eqb-true k 0 t in let n = (ranked a lengths list i).below k (omega arith) in absurd (let q : ◌≡◌ {A = ℕ} 0 1 = cc in omega (arith, q))
+      by false t = let z = eqb-false k 0 t in omega (arith, z)
 
   first_is : (i k : ℕ) → FirstBroken a lengths list i k → record { rule = k; index = i } ≡ malformed a lengths list
   first_is i k first =
       let is = lowest_is 21 (lowest_rule a lengths list i) (breaks_rule a lengths list i) (ranked a lengths list i) k first.broken first.lowest in
-      left_at a lengths list i k (reached i (omega (arith, first.listed)) first.before) is (numbered i k first.broken) first.listed
+      left_at a lengths list i (reached i (omega (arith, first.listed)) first.before) k (sym is) (numbered i k first.broken) first.listed
 
   broken_there : (i k : ℕ) → (k ≡ 0 → ⊥) → malformed a lengths list ≡ record { rule = k; index = i } → FirstBroken a lengths list i k
   unfolding malformed

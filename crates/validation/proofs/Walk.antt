@@ -11,7 +11,7 @@ use Rattle.integer.proofs.Booleans.{both, or_true}
 use Rattle.arithmetic.specs.Opcodes.{most_inputs}
 use Rattle.operation.specs.declared.layout.Varnode.{Varnode}
 use Rattle.operation.specs.Spaces.{Lengths}
-use Rattle.operation.specs.declared.decode.Decoded.TheVariants.{Accepted, Fault}
+use Rattle.std.specs.Prelude.{None, Some}
 use Rattle.operation.specs.Layout.{operation_count, opcode_at, described_by, varnode_at}
 use Rattle.operation.specs.Rules.{breaks_head, describes_varnode, breaks_shape, breaks_shape_at, breaks_place, breaks_range}
 use Rattle.operation.specs.Decoding.{decoded}
@@ -38,17 +38,20 @@ pub first_start : (f : ℕ → ℕ) (n : ℕ) → first_malformed f (n - 0) 0 �
 first_start f n = let e : n - 0 ≡ n = omega arith in rw e
 
 -- a walk that has come to operation i with no fault before it
-module _ (a : ℕ) (lengths : Lengths) (list : List ℕ) (i rule : ℕ)
+module _ (a : ℕ) (lengths : Lengths) (list : List ℕ) (i : ℕ)
     (so_far : first_malformed (lowest_rule a lengths list) (operation_count list - i) i ≡ first_malformed (lowest_rule a lengths list) (operation_count list) 0) where
-  pub left_at_end : rule ≡ 0 → operation_count list ≤ i → record { rule = rule; index = i } ≡ malformed a lengths list
+  pub left_at_end : i ≡ operation_count list → record { rule = 0; index = operation_count list } ≡ malformed a lengths list
   unfolding malformed
-  left_at_end z h = ap (λ (r : ℕ). record { rule = r; index = i }) z ∙ sym (first_end (lowest_rule a lengths list) (operation_count list) i h) ∙ so_far
+  left_at_end e =
+      ap (λ (n : ℕ). record { rule = 0; index = n }) (sym e)
+      ∙ sym (first_end (lowest_rule a lengths list) (operation_count list) i (omega (arith, e)))
+      ∙ so_far
 
-  pub left_at : lowest_rule a lengths list i ≡ rule → (rule ≡ 0 → ⊥) → i < operation_count list → record { rule = rule; index = i } ≡ malformed a lengths list
+  pub left_at : (rule : ℕ) → rule ≡ lowest_rule a lengths list i → 0 < rule → i < operation_count list → record { rule = rule; index = i } ≡ malformed a lengths list
   unfolding malformed
-  left_at e nonzero h =
-      ap (λ (r : ℕ). record { rule = r; index = i }) (sym e)
-      ∙ sym (first_hit (lowest_rule a lengths list) (operation_count list) i h (λ z. nonzero (sym e ∙ z)))
+  left_at rule e positive h =
+      ap (λ (r : ℕ). record { rule = r; index = i }) e
+      ∙ sym (first_hit (lowest_rule a lengths list) (operation_count list) i h (λ z. omega (arith, e, z)))
       ∙ so_far
 
 -- ---- some place breaks a rule
@@ -61,8 +64,8 @@ any_more : (f : ℕ → Bool) (k : ℕ) → any_below (k + 1) f ≡ any_below k 
 unfolding any_below
 any_more f k = let e : k + 1 ≡ suc k = omega arith in rw e
 
-pub any_grows : (f : ℕ → Bool) (k : ℕ) {m q r : Bool} → r ≡ m || q → m ≡ any_below k f → q ≡ f k → r ≡ any_below (k + 1) f
-any_grows f k er em eq = er ∙ rw (em, eq) (sym (any_more f k))
+pub any_grows : (f : ℕ → Bool) (k : ℕ) {m q : Bool} → m ≡ any_below k f → q ≡ f k → m || q ≡ any_below (k + 1) f
+any_grows f k em eq = rw (em, eq) (sym (any_more f k))
 
 any_at : (f : ℕ → Bool) (n k : ℕ) → k < n → f k ≡ true → any_below n f ≡ true
 unfolding any_below
@@ -111,28 +114,28 @@ module _ (a : ℕ) (lengths : Lengths) (list : List ℕ) (i : ℕ) where
 
 -- ---- decoding
 
-pub fault_of : (wanted : Bool) (d o : ℕ) → decoded wanted d o ≡ Fault → breaks_shape wanted d o ≡ true
+pub none_of : (wanted : Bool) (d o : ℕ) → decoded wanted d o ≡ None → breaks_shape wanted d o ≡ true
 unfolding decoded
-fault_of wanted d o = by (breaks_shape wanted d o)
+none_of wanted d o = by (breaks_shape wanted d o)
   where
-    by : (t : Bool) → cond t Fault (Accepted (described_by d o)) ≡ Fault → t ≡ true
+    by : (t : Bool) → cond t None (Some (described_by d o)) ≡ None → t ≡ true
     by true e = refl
     by false e = cc
 
 module _ (wanted : Bool) (d o : ℕ) (v : Varnode) where
-  pub shape_of : decoded wanted d o ≡ Accepted v → breaks_shape wanted d o ≡ false
+  pub shape_of : decoded wanted d o ≡ Some v → breaks_shape wanted d o ≡ false
   unfolding decoded
   shape_of = by (breaks_shape wanted d o)
     where
-      by : (t : Bool) → cond t Fault (Accepted (described_by d o)) ≡ Accepted v → t ≡ false
+      by : (t : Bool) → cond t None (Some (described_by d o)) ≡ Some v → t ≡ false
       by true e = cc
       by false e = refl
 
-  pub varnode_of : decoded wanted d o ≡ Accepted v → v ≡ described_by d o
+  pub varnode_of : decoded wanted d o ≡ Some v → v ≡ described_by d o
   unfolding decoded
   varnode_of = by (breaks_shape wanted d o)
     where
-      by : (t : Bool) → cond t Fault (Accepted (described_by d o)) ≡ Accepted v → v ≡ described_by d o
+      by : (t : Bool) → cond t None (Some (described_by d o)) ≡ Some v → v ≡ described_by d o
       by true e = cc
       by false e = cc
 

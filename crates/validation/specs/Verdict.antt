@@ -1,11 +1,12 @@
 -- The papers' judge: the verdict on a list.
-use Rattle.std.specs.Prelude.{ℕ, zero, suc, ◌+◌, ◌%◌, Bool, false, cond, not, ◌&&◌, ◌||◌, List, eqb, leb, length}
+use Rattle.std.specs.Prelude.{ℕ, zero, suc, ◌+◌, ◌%◌, Bool, false, cond, not, ◌&&◌, ◌||◌, List, eqb, leb, length, Result, Ok, Err, ⊤}
 use Rattle.word.specs.Word.{is_size}
 use Rattle.arithmetic.specs.Opcodes.{most_inputs}
 use Rattle.operation.specs.declared.layout.Settings.{Settings}
 use Rattle.operation.specs.Spaces.{Lengths, Wordsizes}
-use Rattle.validation.specs.declared.Malformed.{Malformed}
+use Rattle.operation.specs.declared.report.Refused.{Refused}
 use Rattle.operation.specs.declared.report.Report.{Report}
+use Rattle.operation.specs.Numbers.{number_of}
 use Rattle.operation.specs.Layout.{words_per_operation, operation_count, opcode_at, varnode_at}
 use Rattle.operation.specs.Rules.{breaks_head, breaks_shape_at, breaks_place, breaks_range, breaks_size, breaks_target}
 
@@ -56,6 +57,11 @@ lowest_rule address_size lengths list i =
     (cond (any_place (λ place. breaks_range lengths opcode place (varnode_at list i place))) 24
     (size_or_target address_size list i))))
 
+-- The first malformed operation of a list, and the lowest rule that it breaks.
+pub record Malformed : Type 0 where
+  pub rule : ℕ
+  pub index : ℕ
+
 -- The first of m operations from index i on that breaks a rule, with the lowest rule it breaks; where there is none, rule 0 and the
 -- index after them.
 unfoldable pub first_malformed : (ℕ → ℕ) → (m i : ℕ) → Malformed
@@ -69,6 +75,15 @@ refusal_report ending index = record { ending = ending; index = index; executed 
 -- The first malformed operation of a list.
 unfoldable pub malformed : (address_size : ℕ) → Lengths → List ℕ → Malformed
 malformed address_size lengths list = first_malformed (lowest_rule address_size lengths list) (operation_count list) 0
+
+-- What the code answers, as what it stands for: nothing found is rule 0 and the number of operations.
+abbrev pub found : Result ⊤ Refused → (n : ℕ) → Malformed
+found (Ok nothing) n = record { rule = 0; index = n }
+found (Err r) n = record { rule = number_of r.why; index = r.index }
+
+-- Its report.
+abbrev pub reported : Result ⊤ Refused → (n : ℕ) → Report
+reported r n = refusal_report (found r n).rule (found r n).index
 
 -- The verdict: 10, 11, the rule and index of the first malformed operation, or 0 and the number of operations.
 unfoldable pub verdict : Settings → Lengths → List ℕ → Report

@@ -143,10 +143,6 @@ written_read big bs h =
 
 -- ---- what gather and scatter do
 
--- a size other than 8
-pub below_eight : (n : ℕ) → n ≤ 8 → (n ≡ 8 → ⊥) → n % 8 ≡ n
-below_eight n h d = mod-eq_of_lt (omega arith)
-
 -- a byte at its weight
 pub byte_fits : (b k : ℕ) → b < 256 → k < 8 → b * 256 ^ k < 2 ^ 64
 byte_fits b k hb hk = lt_of_lt_of_le (mul-lt-mul_of_pos_right hb (size_pos k)) (rw (← (pow-succ' 256 k)) (size_most (suc k) hk))

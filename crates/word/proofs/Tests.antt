@@ -3,7 +3,7 @@ use mathlib.Core.Path.{◌≡◌, refl, sym, ◌∙◌}
 use mathlib.Core.Bool.{Bool, true, false, cond}
 use Prim.Native.Nat.{ℕ, zero, suc, ◌≤◌, ◌<◌}
 use native.Mathlib.Omega.{arith}
-use borrow.Author.Tests.{leb-true, leb-false, le-leb, lt-leb, le-ltb, eqb-true, eqb-false, eq-eqb, ne_eqb}
+use borrow.Author.Tests.{leb-true, leb-false, le-leb, lt-leb, le-ltb}
 use lib.Dec.{leb, ltb, eqb, eqb-suc-zero}
 
 pub leb-agree : (a b c d : ℕ) → (a ≤ b → c ≤ d) → (b < a → d < c) → leb a b ≡ leb c d
@@ -12,13 +12,6 @@ leb-agree a b c d when_true when_false = by (leb a b) refl
     by : (t : Bool) → leb a b ≡ t → leb a b ≡ leb c d
     by true e = e ∙ sym (le-leb c d (when_true (leb-true a b e)))
     by false e = e ∙ sym (lt-leb c d (when_false (leb-false a b e)))
-
-pub eqb-agree : (a b c d : ℕ) → (a ≡ b → c ≡ d) → (c ≡ d → a ≡ b) → eqb a b ≡ eqb c d
-eqb-agree a b c d there back = by (eqb c d) refl
-  where
-    by : (t : Bool) → eqb c d ≡ t → eqb a b ≡ eqb c d
-    by true e = eq-eqb a b (back (eqb-true c d e)) ∙ sym e
-    by false e = ne_eqb a b (λ k. eqb-false c d e (there k)) ∙ sym e
 
 below_one : (x : ℕ) → eqb x 0 ≡ ltb x 1
 below_one zero = refl

@@ -18,22 +18,25 @@ pub fn low(size: u64, x: u64) -> u64
     if size < 8 { x % modulus(size) } else { x }
 }
 
+// A size of 1 to 8 bytes.
+#[derive(Clone, Copy)]
+pub struct Size {
+    pub bytes: u64,
+    ghost in_range: { (1 ≤ bytes) × (bytes ≤ 8) },
+}
+
 // The largest number of a size: all ones.
-pub fn largest(size: u64) -> u64
-    requires { (1 ≤ size) × (size ≤ 8) }
-    ensures { result ≡ 256 ^ size - 1 }
+pub fn largest(size: Size) -> u64
+    ensures { result ≡ 256 ^ size.bytes - 1 }
 {
-    u64::MAX >> (64 - 8 * size)
+    u64::MAX >> (64 - 8 * size.bytes)
 }
 
 // A number is below 256^size; every word is, from 8 bytes on.
 pub fn holds(size: u64, x: u64) -> bool
     ensures { result ≡ ltb x (256 ^ size) }
 {
-    if 8 <= size {
-        return true;
-    }
-    x < modulus(size)
+    8 <= size || x < modulus(size)
 }
 
 // A size of 1 to 8 bytes.
@@ -41,18 +44,12 @@ pub fn holds(size: u64, x: u64) -> bool
 pub fn is_size(size: u64) -> bool
     ensures { result ≡ is_size size }
 {
-    if size < 1 {
-        return false;
-    }
-    size <= 8
+    (1 <= size) & (size <= 8)
 }
 
 // The `size` bytes at `offset` lie within a space of `length` bytes. The sum of the two could wrap, so it is not made.
 pub fn within(offset: u64, size: u64, length: u64) -> bool
     ensures { result ≡ leb (offset + size) length }
 {
-    if length < size {
-        return false;
-    }
-    offset <= length - size
+    size <= length && offset <= length - size
 }

@@ -4,7 +4,8 @@ use mathlib.Core.Path.{refl, sym, ap, ◌∙◌}
 use native.Mathlib.Omega.{arith}
 use Rattle.word.specs.Sum.{tabulate}
 use Rattle.integer.proofs.Bits.{negate_is, xor_is, and_is, or_is}
-use Rattle.integer.proofs.Booleans.{not-not}
+use Rattle.std.proofs.Math.Bool.{not-not}
+use Rattle.integer.proofs.Booleans.{flag_is}
 use Rattle.arithmetic.proofs.Lookup.{lookup_none}
 use Rattle.arithmetic.proofs.Agreement.{agreed, nonzero, halves_fit, size_kept, all_equal, inputs_equal}
 use Rattle.integer.proofs.Overflow.{opposite_is}
@@ -20,23 +21,23 @@ piece-requires c = halves_fit c.requires (agreed c.requires 10 c.in-10.is)
 
 pub less-requires : goal.less-requires
 unfolding sizes_agree agree sizes_of row_of opcodes
-less-requires c = (c.requires.some0, c.requires.most0, c.requires.below0, inputs_equal c.requires (agreed c.requires 16 c.in-16.is))
+less-requires c = (c.requires.below0, inputs_equal c.requires (agreed c.requires 16 c.in-16.is))
 
 pub less_equal-requires : goal.less_equal-requires
 unfolding sizes_agree agree sizes_of row_of opcodes
-less_equal-requires c = (c.requires.some0, c.requires.most0, c.requires.below0, inputs_equal c.requires (agreed c.requires 18 c.in-18.is))
+less_equal-requires c = (c.requires.below0, inputs_equal c.requires (agreed c.requires 18 c.in-18.is))
 
 pub carry-requires : goal.carry-requires
 unfolding sizes_agree agree sizes_of row_of opcodes
-carry-requires c = (c.requires.some0, c.requires.most0, inputs_equal c.requires (agreed c.requires 23 c.in-23.is))
+carry-requires c = inputs_equal c.requires (agreed c.requires 23 c.in-23.is)
 
 pub carry-requires-in-24 : goal.carry-requires-in-24
 unfolding sizes_agree agree sizes_of row_of opcodes
-carry-requires-in-24 c = (c.requires.some0, c.requires.most0, c.requires.below0, inputs_equal c.requires (agreed c.requires 24 c.in-24.is))
+carry-requires-in-24 c = (c.requires.below0, inputs_equal c.requires (agreed c.requires 24 c.in-24.is))
 
 pub borrow-requires : goal.borrow-requires
 unfolding sizes_agree agree sizes_of row_of opcodes
-borrow-requires c = (c.requires.some0, c.requires.most0, c.requires.below0, inputs_equal c.requires (agreed c.requires 25 c.in-25.is))
+borrow-requires c = (c.requires.below0, inputs_equal c.requires (agreed c.requires 25 c.in-25.is))
 
 pub overflow_sub-result : goal.overflow_sub-result
 unfolding sizes_agree agree sizes_of row_of opcodes
@@ -46,7 +47,7 @@ overflow_sub-result c =
 
 pub right-requires-in-33 : goal.right-requires-in-33
 unfolding sizes_agree agree sizes_of row_of opcodes
-right-requires-in-33 c = (c.requires.some, c.requires.most, size_kept c.requires (agreed c.requires 33 c.in-33.is))
+right-requires-in-33 c = size_kept c.requires (agreed c.requires 33 c.in-33.is)
 
 pub nonzero_div-result : goal.nonzero_div-result
 unfolding divides
@@ -61,78 +62,54 @@ unfolding sizes_agree agree sizes_of row_of opcodes divides
 div-requires c =
     let o = c.requires in
     let h = all_equal o (agreed o 37 c.in-37.is) in
-    (o.some, o.most, h.0, h.1, nonzero o 37 c.in-37.is refl)
+    (h.0, h.1, nonzero o 37 c.in-37.is refl)
 
 pub rem-requires : goal.rem-requires
 unfolding sizes_agree agree sizes_of row_of opcodes divides
 rem-requires c =
     let o = c.requires in
     let h = all_equal o (agreed o 38 c.in-38.is) in
-    (o.some, o.most, h.0, h.1, nonzero o 38 c.in-38.is refl)
-
-pub returns-in-10 : goal.returns-in-10
-unfolding lookup integer_results
-returns-in-10 c = rw c.in-10.is c.piece.ensures
-
-pub returns-in-11 : goal.returns-in-11
-unfolding lookup integer_results
-returns-in-11 c = rw c.in-11.is c.subpiece.ensures
-
-pub returns-in-12 : goal.returns-in-12
-unfolding lookup integer_results
-returns-in-12 c = rw c.in-12.is c.popcount.ensures
+    (h.0, h.1, nonzero o 38 c.in-38.is refl)
 
 pub returns-in-13 : goal.returns-in-13
 unfolding lookup integer_results int_equal
-returns-in-13 c = rw c.in-13.is c.flag.ensures
+returns-in-13 c = rw c.in-13.is (c.from.ensures ∙ flag_is _)
 
 pub returns-in-14 : goal.returns-in-14
 unfolding lookup integer_results int_not_equal
-returns-in-14 c = rw c.in-14.is c.flag-in-14.ensures
+returns-in-14 c = rw c.in-14.is (c.from-in-14.ensures ∙ flag_is _)
 
 pub returns-in-15 : goal.returns-in-15
 unfolding lookup integer_results int_less
-returns-in-15 c = rw c.in-15.is c.flag-in-15.ensures
+returns-in-15 c = rw c.in-15.is (c.from-in-15.ensures ∙ flag_is _)
 
 pub returns-in-16 : goal.returns-in-16
 unfolding lookup integer_results int_sless
-returns-in-16 c = rw c.in-16.is (c.flag-in-16.ensures ∙ ap flag c.less.ensures)
+returns-in-16 c = rw c.in-16.is (c.from-in-16.ensures ∙ flag_is _ ∙ ap flag c.less.ensures)
 
 pub returns-in-17 : goal.returns-in-17
 unfolding lookup integer_results int_less_equal
-returns-in-17 c = rw c.in-17.is c.flag-in-17.ensures
+returns-in-17 c = rw c.in-17.is (c.from-in-17.ensures ∙ flag_is _)
 
 pub returns-in-18 : goal.returns-in-18
 unfolding lookup integer_results int_sless_equal
-returns-in-18 c = rw c.in-18.is (c.flag-in-18.ensures ∙ ap flag c.less_equal.ensures)
+returns-in-18 c = rw c.in-18.is (c.from-in-18.ensures ∙ flag_is _ ∙ ap flag c.less_equal.ensures)
 
 pub returns-in-19 : goal.returns-in-19
 unfolding lookup integer_results int_zext
 returns-in-19 c = rw c.in-19.is
 
-pub returns-in-20 : goal.returns-in-20
-unfolding lookup integer_results
-returns-in-20 c = rw c.in-20.is c.extend.ensures
-
-pub returns-in-21 : goal.returns-in-21
-unfolding lookup integer_results
-returns-in-21 c = rw c.in-21.is c.add.ensures
-
-pub returns-in-22 : goal.returns-in-22
-unfolding lookup integer_results
-returns-in-22 c = rw c.in-22.is c.sub.ensures
-
 pub returns-in-23 : goal.returns-in-23
 unfolding lookup integer_results int_carry
-returns-in-23 c = rw c.in-23.is (c.flag-in-23.ensures ∙ ap flag c.carry.ensures)
+returns-in-23 c = rw c.in-23.is (c.from-in-23.ensures ∙ flag_is _ ∙ ap flag c.carry.ensures)
 
 pub returns-in-24 : goal.returns-in-24
 unfolding lookup integer_results int_scarry
-returns-in-24 c = rw c.in-24.is (c.flag-in-24.ensures ∙ ap flag c.carry-in-24.ensures)
+returns-in-24 c = rw c.in-24.is (c.from-in-24.ensures ∙ flag_is _ ∙ ap flag c.carry-in-24.ensures)
 
 pub returns-in-25 : goal.returns-in-25
 unfolding lookup integer_results int_sborrow
-returns-in-25 c = rw c.in-25.is (c.flag-in-25.ensures ∙ ap flag c.borrow.ensures)
+returns-in-25 c = rw c.in-25.is (c.from-in-25.ensures ∙ flag_is _ ∙ ap flag c.borrow.ensures)
 
 pub returns-in-26 : goal.returns-in-26
 unfolding lookup integer_results sizes_agree agree sizes_of row_of opcodes
@@ -160,22 +137,6 @@ returns-in-30 c =
     let h = all_equal c.requires (agreed c.requires 30 c.in-30.is) in
     rw c.in-30.is (or_is _ _ _ h.0 h.1)
 
-pub returns-in-31 : goal.returns-in-31
-unfolding lookup integer_results
-returns-in-31 c = rw c.in-31.is c.left.ensures
-
-pub returns-in-32 : goal.returns-in-32
-unfolding lookup integer_results
-returns-in-32 c = rw c.in-32.is c.right.ensures
-
-pub returns-in-33 : goal.returns-in-33
-unfolding lookup integer_results
-returns-in-33 c = rw c.in-33.is c.right-in-33.ensures
-
-pub returns-in-34 : goal.returns-in-34
-unfolding lookup integer_results
-returns-in-34 c = rw c.in-34.is c.mult.ensures
-
 pub returns-in-35 : goal.returns-in-35
 unfolding lookup integer_results int_div
 returns-in-35 c = rw c.in-35.is
@@ -184,29 +145,9 @@ pub returns-in-36 : goal.returns-in-36
 unfolding lookup integer_results int_rem
 returns-in-36 c = rw c.in-36.is
 
-pub returns-in-37 : goal.returns-in-37
-unfolding lookup integer_results
-returns-in-37 c = rw c.in-37.is c.div.ensures
-
-pub returns-in-38 : goal.returns-in-38
-unfolding lookup integer_results
-returns-in-38 c = rw c.in-38.is c.rem.ensures
-
 pub returns-in-39 : goal.returns-in-39
 unfolding lookup integer_results bool_negate truth
-returns-in-39 c = rw c.in-39.is (c.flag-in-39.ensures ∙ ap flag (sym (not-not _)))
-
-pub returns-in-40 : goal.returns-in-40
-unfolding lookup integer_results
-returns-in-40 c = rw c.in-40.is c.xor.ensures
-
-pub returns-in-41 : goal.returns-in-41
-unfolding lookup integer_results
-returns-in-41 c = rw c.in-41.is c.and.ensures
-
-pub returns-in-42 : goal.returns-in-42
-unfolding lookup integer_results
-returns-in-42 c = rw c.in-42.is c.or.ensures
+returns-in-39 c = rw c.in-39.is (c.from-in-39.ensures ∙ flag_is _ ∙ ap flag (sym (not-not _)))
 
 pub returns-in_default : goal.returns-in_default
 unfolding integer_results member tabulate

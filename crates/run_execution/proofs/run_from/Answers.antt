@@ -1,13 +1,13 @@
-use mathlib.Core.Path.{refl, sym, ◌∙◌}
+use mathlib.Core.Path.{sym, ◌∙◌}
 use Rattle.machine.specs.Program.{big_endian, program_of}
-use Rattle.run_memory.proofs.Spaces.{same_still}
+use Rattle.run_memory.proofs.Spaces.{same_none, same_still}
 use Rattle.run_execution.proofs.Running.{planned_from, begun, at_end, at_budget, at_stop, at_full, may_log, may_write, at_exit, at_next}
 use Rattle.run_execution.proofs.run_from.Goals as goal
 
 pub loop-i-init : goal.loop-i-init
 loop-i-init c = (
   c.operation_count-count.ensures,
-  record { unique = refl; register = refl; ram = refl },
+  same_none,
   begun _ _ _ _ _ _ c.requires.3 (λ j. (c.type_inv.list j).fits) c.requires.0 c.requires.1
       c.requires.2,
 )

@@ -15,10 +15,10 @@ opcode_at-requires c =
     let w = in_words _ _ pre.0 _ (not_the_end _ c.operation_count.ensures pre.1 c.if-i-operation_count.false) in
     omega arith
 
-pub returns-then-opcode_at-eq3 : goal.returns-then-opcode_at-eq3
-returns-then-opcode_at-eq3 c =
+pub returns-then-opcode_at-eq-STORE : goal.returns-then-opcode_at-eq-STORE
+returns-then-opcode_at-eq-STORE c =
     c.stored_at.ensures
-    ∙ before-store _ _ _ _ (λ e. c.if-i-operation_count.false (e ∙ sym c.operation_count.ensures)) (eq-eqb _ 3 (sym c.opcode_at.ensures ∙ c.if-opcode_at-eq3.true))
+    ∙ before-store _ _ _ _ (λ e. c.if-i-operation_count.false (e ∙ sym c.operation_count.ensures)) (eq-eqb _ 3 (sym c.opcode_at.ensures ∙ c.if-opcode_at-eq-STORE.true))
 
 pub varnode_at-requires : goal.varnode_at-requires
 varnode_at-requires c =
@@ -29,4 +29,4 @@ pub returns : goal.returns
 returns c =
     c.varnode_at.ensures
     ∙ before_other _ _ _ _ (λ e. c.if-i-operation_count.false (e ∙ sym c.operation_count.ensures))
-    (ne_eqb _ 3 (λ e. c.if-opcode_at-eq3.false (c.opcode_at.ensures ∙ e)))
+    (ne_eqb _ 3 (λ e. c.if-opcode_at-eq-STORE.false (c.opcode_at.ensures ∙ e)))

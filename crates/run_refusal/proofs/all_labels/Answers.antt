@@ -1,20 +1,18 @@
-use Prim.Native.Nat.{◌<◌}
+use Prim.Native.Nat.{max}
+use lib.ListN.{get_or}
+use Rattle.std.proofs.lemmas.Grind.{common_steps}
+use mathlib.Core.Path.{◌≡◌, refl}
 use native.Mathlib.Numerals.{add-one}
 use native.Mathlib.Omega.{arith}
-use lib.ListN.{length}
-use Rattle.run_refusal.proofs.Labels.{largest_tells, more_low, more_high}
+use Rattle.machine.specs.Calls.{all_labels}
+use Rattle.run_refusal.proofs.Labels.{larger_low}
 use Rattle.run_refusal.proofs.all_labels.Goals as goal
 
-pub loop-i-preserved : goal.loop-i-preserved
-loop-i-preserved c =
-    let labels = c.args.labels.now in
-    let l = c.loop-i in
-    let h : l.i < length labels = omega arith in
-    rw (add-one, c.larger-most.ensures)
-    (omega arith, more_low labels l.most l.i h l.invariant.1 l.invariant.2, more_high labels l.most l.i h l.invariant.1 l.invariant.2)
+pub loop-label-init : goal.loop-label-init
+unfolding all_labels
+loop-label-init c = refl
 
-pub returns : goal.returns
-returns c =
-    let labels = c.args.labels.now in
-    let l = c.loop-i in
-    largest_tells labels l.most (λ k h. l.invariant.1 k (omega arith)) l.invariant.2
+pub loop-label-preserved : goal.loop-label-preserved
+loop-label-preserved c =
+    let e : c.max-most.result ≡ max c.loop-label.most (get_or c.args.labels.now c.loop-label.label-index 0) = grind (arith, common_steps) in
+    rw (add-one, e) (larger_low _ _ _ (omega arith) c.loop-label.invariant)

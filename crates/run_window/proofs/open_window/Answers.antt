@@ -1,30 +1,32 @@
+-- `run_window::open_window` meets its contract.
 use mathlib.Core.Path.{◌∙◌}
 use Rattle.machine.specs.Program.{program_of}
-use Rattle.machine.proofs.MovedCounts.{of_words}
+use Rattle.run_memory.proofs.Spaces.{same_lengths}
 use Rattle.run_window.proofs.GivenBack.{still_fit, given_back}
 use Rattle.run_window.proofs.Marks.{may_mark, window_left}
 use Rattle.run_window.proofs.open_window.Goals as goal
 
 pub undo-requires : goal.undo-requires
 undo-requires c =
-    let kept = c.run_saved-went.auto in
-    (c.run_saved-went.ensures.1.undoable, still_fit kept.unique_labels kept.register_labels kept.ram_labels c.run_saved-went.ensures.2 c.requires.7)
+    let went = c.run_saved-went.ensures in
+    (went.saved.undoable, still_fit (same_lengths went.same.1) went.counts c.requires.7)
 
 pub mark_words-requires : goal.mark_words-requires
 mark_words-requires c =
-    may_mark (program_of c.args.settings _) _ _ _ _ _ _ c.requires.2 _ _ _ _ c.run_saved-went.ensures.0 c.requires.0.in_range
+    may_mark (program_of c.args.settings _) _ _ _ _ _ _ c.requires.2 _ _ _ _ c.run_saved-went.ensures.outcome c.requires.0.in_range
 
-pub returns : goal.returns
-returns c =
-    let kept = c.run_saved-went.auto in
-    let labels = c.undo.ensures.1 ∙ c.run_saved-went.ensures.1.marks in
-    rw c.mark_words.ensures (
-      window_left (program_of c.args.settings _) _ _ _ _ _ _ c.requires.2 _ _ _ _ c.run_saved-went.ensures.0 _ _
-          (c.undo.ensures.0 ∙ c.run_saved-went.ensures.1.bytes) labels,
-      c.run_saved-went.ensures.1.spared,
-      given_back kept.unique_labels kept.register_labels kept.ram_labels c.run_saved-went.ensures.2 c.undo.ensures.2 labels
-          (of_words _ _ _ (λ j. (c.slice_known-29-1.given j).fits) (λ j. (c.slice_known-30-1.given j).fits)
-          (λ j. (c.slice_known-31-1.given j).fits))
-          (of_words _ _ _ (λ j. (c.slice_known-7-1.given j).fits) (λ j. (c.slice_known-8-1.given j).fits)
-          (λ j. (c.slice_known-9-1.given j).fits)),
-    )
+pub returns-clause-outcome : goal.returns-clause-outcome
+returns-clause-outcome c =
+    let went = c.run_saved-went.ensures in
+    rw c.mark_words.ensures
+    (window_left (program_of c.args.settings _) _ _ _ _ _ _ c.requires.2 _ _ _ _ went.outcome _ _
+    (c.undo.ensures.memory ∙ went.saved.bytes) (c.undo.ensures.labels ∙ went.saved.marks))
+
+pub returns-clause-journal : goal.returns-clause-journal
+returns-clause-journal c = c.run_saved-went.ensures.saved.spared
+
+pub returns-clause-counts : goal.returns-clause-counts
+returns-clause-counts c =
+    let went = c.run_saved-went.ensures in
+    given_back (same_lengths went.same.1) went.counts c.undo.ensures.counts (c.undo.ensures.labels ∙ went.saved.marks)
+    c.are_words-2.ensures c.are_words.ensures

@@ -2,20 +2,19 @@
 use Prim.Native.Nat.{◌-◌}
 use Rattle.secret_counts.specs.Moved.{low_bit}
 use Rattle.machine.specs.Program.{program_of}
-use Rattle.machine.specs.Memory.{spaces}
+use Rattle.machine.specs.Lent.{lent, SameBuffers}
 use Rattle.run_window.proofs.SavedRun.{SavedTurns}
 use Rattle.machine.specs.MovedCounts.{MovedSpaces}
 use Rattle.run_window.proofs.run_saved.Given as goal
 
 -- what is left of the window is the whole window, and the counts moved with the labels
 abbrev pub invariant-loop-settings : goal.invariant-loop-settings
-invariant-loop-settings l =
-    SavedTurns (program_of l.settings l.list) l.window l.start l.from l.initial.log l.initial.journal
-    (spaces l.initial.unique_labels l.initial.register_labels l.initial.ram_labels) (spaces l.initial.unique l.initial.register l.initial.ram)
-    l.i l.executed l.k l.log l.journal (spaces l.unique_labels l.register_labels l.ram_labels) (spaces l.unique l.register l.ram)
-    × MovedSpaces low_bit (spaces l.initial.unique_labels l.initial.register_labels l.initial.ram_labels)
-    (spaces l.unique_labels l.register_labels l.ram_labels) (spaces l.initial.unique_counts l.initial.register_counts l.initial.ram_counts)
-    (spaces l.unique_counts l.register_counts l.ram_counts)
+invariant-loop-settings l = record {
+  same : SameBuffers l.initial.memory l.memory × SameBuffers l.initial.labels l.labels × SameBuffers l.initial.counts l.counts;
+  turns : SavedTurns (program_of l.settings l.list) l.window l.start l.from l.initial.log l.initial.journal (lent l.initial.labels) (lent l.initial.memory)
+      l.i l.executed l.k l.log l.journal (lent l.labels) (lent l.memory);
+  counts : MovedSpaces low_bit (lent l.initial.labels) (lent l.labels) (lent l.initial.counts) (lent l.counts);
+}
 
 abbrev pub decreases-loop-settings : goal.decreases-loop-settings
 decreases-loop-settings l = l.window - l.executed

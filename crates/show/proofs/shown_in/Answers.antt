@@ -5,8 +5,8 @@ use Rattle.show.proofs.Parts.{showable_end, end_less_start}
 use Rattle.show.specs.Show.{shown_in}
 use Rattle.show.proofs.shown_in.Goals as goal
 
-pub overflow_add-end : goal.overflow_add-end
-overflow_add-end c = omega (arith, showable_end _ _ _ (sym c.showable.ensures ∙ c.if-showable.true))
+pub overflow_add-result : goal.overflow_add-result
+overflow_add-result c = omega (arith, showable_end _ _ _ (sym c.showable.ensures ∙ c.if-showable.true))
 
 pub slice_bounds-result-end : goal.slice_bounds-result-end
 slice_bounds-result-end c = omega (arith, showable_end _ _ _ (sym c.showable.ensures ∙ c.if-showable.true))

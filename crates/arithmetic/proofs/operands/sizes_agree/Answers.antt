@@ -17,22 +17,20 @@ pub returns-then-has_bit-2 : goal.returns-then-has_bit-2
 unfolding sizes_agree
 returns-then-has_bit-2 c =
     let a = c.args in
-    c.both.ensures
-    ∙ (rw (tested c.has_bit.ensures (kept-set _) c.if-has_bit.false, tested c.has_bit-2.ensures (equal-set _) c.if-has_bit-2.true)
-    at (by_sentence (sizes_of a.opcode) a.address_size a.size a.size0 a.size1))
+    rw (tested c.has_bit.ensures (kept-set _) c.if-has_bit.false, tested c.has_bit-else-has_bit.ensures (equal-set _) c.if-has_bit-2.true)
+    at (by_sentence (sizes_of a.opcode) a.address_size a.size a.size0 a.size1)
 
-pub returns : goal.returns
+pub returns-else-has_bit-2 : goal.returns-else-has_bit-2
 unfolding sizes_agree
-returns c =
+returns-else-has_bit-2 c =
     let a = c.args in
-    pick_is c.sentence.ensures (compared-set _) c.both-5.ensures
+    pick_is c.sentence.ensures (compared-set _) refl
     (pick_is c.sentence-extended.ensures (extended-set _) refl
-    (pick_is c.sentence-boolean.ensures (boolean-set _) (c.both-4.ensures ∙ rw c.both-3.ensures refl)
-    (pick_is c.sentence-negated.ensures (negated-set _) c.both-2.ensures
+    (pick_is c.sentence-boolean.ensures (boolean-set _) refl
+    (pick_is c.sentence-negated.ensures (negated-set _) refl
     (pick_is c.sentence-joined.ensures (joined-set _) c.add_up.ensures
     (pick_is c.sentence-pointer.ensures (pointer-set _) refl
     (pick_is c.sentence-indirect.ensures (indirect-set _) refl
-    (pick_is c.sentence-condition.ensures (condition-set _) refl
-    (pick_is c.sentence-free.ensures (free-set _) refl refl))))))))
-    ∙ (rw (tested c.has_bit.ensures (kept-set _) c.if-has_bit.false, tested c.has_bit-2.ensures (equal-set _) c.if-has_bit-2.false)
+    (pick_is c.sentence-condition.ensures (condition-set _) refl (c.has_bit-free.ensures ∙ free-set _))))))))
+    ∙ (rw (tested c.has_bit.ensures (kept-set _) c.if-has_bit.false, tested c.has_bit-else-has_bit.ensures (equal-set _) c.if-has_bit-2.false)
     at (by_sentence (sizes_of a.opcode) a.address_size a.size a.size0 a.size1))

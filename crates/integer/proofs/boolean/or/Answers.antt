@@ -1,12 +1,8 @@
--- `integer::boolean::or` meets its contract.
-use Rattle.std.proofs.Common.{eq-eqb, ne_eqb}
-use Rattle.integer.specs.Operations.{flag, truth, bool_or}
+use Rattle.std.proofs.Common.{◌∙◌}
+use Rattle.integer.specs.Operations.{truth, bool_or}
+use Rattle.integer.proofs.Booleans.{flag_is}
 use Rattle.integer.proofs.boolean.or.Goals as goal
 
-pub returns-then-a-eq0 : goal.returns-then-a-eq0
-unfolding truth bool_or
-returns-then-a-eq0 c = rw (eq-eqb c.args.a 0 c.if-a-eq0.true) c.flag.ensures
-
 pub returns : goal.returns
-unfolding flag truth bool_or
-returns c = rw (ne_eqb _ 0 c.if-a-eq0.false)
+unfolding truth bool_or
+returns c = c.from.ensures ∙ flag_is _

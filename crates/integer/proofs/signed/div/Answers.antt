@@ -1,22 +1,15 @@
 -- `integer::signed::div` meets its contract.
-use Rattle.integer.proofs.Division.{divides, sdiv_is, sdiv_least}
+use Rattle.integer.proofs.Division.{divides, sdiv_is}
+use Rattle.integer.proofs.TwosComplement.{written}
 use Rattle.integer.proofs.signed.div.Goals as goal
-use Rattle.integer.proofs.signed.div.Goals.{then-q+else-p, else-q}
 
-pub returns-then-p : goal.returns-then-p
-returns-then-p c =
-    let pre = c.requires in
-    sdiv_least _ _ _ c.value_of-p.result c.value_of-q.result (record { sfits = c.value_of-p.type_inv }) (record { sfits = c.value_of-q.type_inv })
-    c.value_of-p.ensures c.value_of-q.ensures pre.1 pre.2 c.if-q.true c.if-p.true
-
-pub nonzero_div-p : goal.nonzero_div-p
-nonzero_div-p c =
-    let pre = c.requires in
+pub wrapping_div-requires : goal.wrapping_div-requires
+wrapping_div-requires c =
     divides _ _ _ c.value_of-p.result c.value_of-q.result (record { sfits = c.value_of-p.type_inv }) (record { sfits = c.value_of-q.type_inv })
-    c.value_of-p.ensures c.value_of-q.ensures pre.3 pre.4
-    (elim c.if-q.branch [ then-q+else-p w ↦ λ x y. w.if-p.false y | else-q w ↦ λ x y. w.if-q.false x ])
+    c.value_of-p.ensures c.value_of-q.ensures c.requires.1 c.requires.2
 
 pub returns : goal.returns
 returns c =
     sdiv_is _ _ _ c.value_of-p.result c.value_of-q.result (record { sfits = c.value_of-p.type_inv }) (record { sfits = c.value_of-q.type_inv })
-    c.value_of-p.ensures c.value_of-q.ensures _ (nonzero_div-p c.before).1 c.wrapped.ensures
+    c.value_of-p.ensures c.value_of-q.ensures _ c.args.size.in_range.1
+    (written _ _ _ _ (record { sfits = c.wrapping_div.type_inv }) c.wrapping_div.ensures c.wrapped.ensures)

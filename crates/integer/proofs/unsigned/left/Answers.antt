@@ -4,10 +4,10 @@ use Rattle.word.proofs.Powers.{low_part_lem}
 use Rattle.integer.specs.Operations.{int_left}
 use Rattle.integer.proofs.unsigned.left.Goals as goal
 
-pub returns-then-size-b : goal.returns-then-size-b
+pub returns-then-b-size : goal.returns-then-b-size
 unfolding int_left
-returns-then-size-b c = rw (le-ltb _ _ c.if-size-b.true)
+returns-then-b-size c = rw (lt-ltb _ _ c.if-b-size.true) (c.low.ensures ∙ low_part_lem _ _ c.requires)
 
-pub returns : goal.returns
+pub returns-else-b-size : goal.returns-else-b-size
 unfolding int_left
-returns c = rw (lt-ltb _ _ c.if-size-b.false) (c.low.ensures ∙ low_part_lem _ _ c.requires)
+returns-else-b-size c = rw (le-ltb _ _ c.if-b-size.false)

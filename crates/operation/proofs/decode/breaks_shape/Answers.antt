@@ -1,5 +1,3 @@
--- `operation::decode::breaks_shape` meets its contract.
-use mathlib.Core.Path.{◌∙◌}
 use borrow.Author.Tests.{eq-eqb, ne_eqb}
 use Rattle.operation.proofs.Decoding.{shape_broken}
 use Rattle.operation.proofs.decode.breaks_shape.Goals as goal
@@ -7,10 +5,9 @@ use Rattle.operation.proofs.decode.breaks_shape.Goals as goal
 pub returns-then-descriptor-eq0 : goal.returns-then-descriptor-eq0
 returns-then-descriptor-eq0 c =
     let a = c.args in
-    c.either.ensures ∙ (rw (eq-eqb a.descriptor 0 c.if-descriptor-eq0.true) at (shape_broken a.wanted a.descriptor a.offset))
+    (rw (eq-eqb a.descriptor 0 c.if-descriptor-eq0.true) at (shape_broken a.wanted a.descriptor a.offset))
 
-pub returns : goal.returns
-returns c =
+pub returns-else-descriptor-eq0 : goal.returns-else-descriptor-eq0
+returns-else-descriptor-eq0 c =
     let a = c.args in
-    c.either-2.ensures
-    ∙ rw c.describes_varnode.ensures (rw (ne_eqb a.descriptor 0 c.if-descriptor-eq0.false) at (shape_broken a.wanted a.descriptor a.offset))
+    rw c.describes_varnode.ensures (rw (ne_eqb a.descriptor 0 c.if-descriptor-eq0.false) at (shape_broken a.wanted a.descriptor a.offset))

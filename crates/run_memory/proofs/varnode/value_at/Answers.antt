@@ -8,10 +8,5 @@ pub returns-then-v-lt-UNIQUE : goal.returns-then-v-lt-UNIQUE
 returns-then-v-lt-UNIQUE c =
     sym (number_elsewhere _ _ (λ e. omega arith) (λ e. omega arith) (λ e. omega arith) c.requires _)
 
-pub returns-then-big : goal.returns-then-big
-returns-then-big c =
-    rw c.if-big.true (c.gather.ensures ∙ number_gathered _ _ c.if-v-lt-UNIQUE.false _ c.space_of-bytes.ensures _)
-
-pub returns-else-big : goal.returns-else-big
-returns-else-big c =
-    rw c.if-big.false (c.gather-else-big.ensures ∙ number_gathered _ _ c.if-v-lt-UNIQUE.false _ c.space_of-bytes.ensures _)
+pub returns : goal.returns
+returns c = c.gather.ensures ∙ number_gathered _ _ c.if-v-lt-UNIQUE.false _ c.space_of-bytes.ensures _

@@ -1,5 +1,4 @@
 -- `word::bytes::scatter_walk` meets its contract. The loop's invariant: the bytes passed are written, and nothing else (`Storing`).
-use Prim.Native.Nat.{◌-◌}
 use Rattle.word.specs.Sum.{digit}
 use Rattle.word.specs.Word.{significance}
 use Rattle.word.proofs.Stores.{Storing}
@@ -7,6 +6,3 @@ use Rattle.word.proofs.bytes.scatter_walk.Given as goal
 
 abbrev pub invariant-loop-i : goal.invariant-loop-i
 invariant-loop-i l = Storing (λ k. digit 256 l.v (significance l.big l.size k)) l.size l.at l.initial.s l.s l.i
-
-abbrev pub decreases-loop-i : goal.decreases-loop-i
-decreases-loop-i l = l.size - l.i
