@@ -3,11 +3,11 @@ use Rattle.std.proofs.Common.{ℕ, List, [], ◌++◌, refl, ap, ◌∙◌, appe
 use Rattle.std.specs.Io.KnownBytes.{Consumes}
 use Rattle.case_reader.specs.Stream.{HasRead, Advanced}
 use Rattle.case_reader.specs.declared.stream.Reader.{Reader}
-use Rattle.case.specs.Read.{ReadSome}
+use Rattle.case.specs.Read.{Read}
 
 -- What was read of a stream, whose bytes may be known.
 pub record ReadOf (before after : Option (List ℕ)) (r : Reader) : Type 0 where
-  pub so_far : ReadSome r
+  pub so_far : Read r
   pub taken : Consumes before after so_far.text
 
 consumes_none : (k : Option (List ℕ)) → Consumes k k []

@@ -1,9 +1,9 @@
 // The case program: reads a case from standard input and prints what its labelled run leaves.
 #![tactic(auto)]
 
-ghost use Rattle.std.specs.Prelude.{[], IfSome, OnOk};
+ghost use Rattle.std.specs.Prelude.{[], IfSome};
 ghost use Rattle.case_reader.specs.Stream.{HasRead};
-ghost use Rattle.case.specs.Read.{ReadSome};
+ghost use Rattle.case.specs.Read.{Read, ReadWhole};
 
 use case_reader::stream::Reader;
 use std::env::{Env, FillError};
@@ -45,8 +45,8 @@ fn has_argument(rt: &HostRuntime) -> bool {
 // turns only make it plain that the loop ends.
 fn read_all<R: Read>(from: &mut R, reader: &mut Reader) -> Result<(), ReadFailed>
     requires { HasRead [] reader.old }
-    ensures read { ReadSome reader.new }
-    ensures whole { IfSome (R.remaining from.old) (λ text. OnOk result (HasRead text reader.new)) }
+    ensures read { Read reader.new }
+    ensures whole { IfSome (R.remaining from.old) (ReadWhole result reader.new) }
 {
     let mut part = [0u8; 65536];
     for _ in 0..u64::MAX {
