@@ -3,6 +3,7 @@ use Prim.Native.Nat.{ℕ, zero, suc, ◌%◌, ◌<◌}
 use native.Mathlib.Omega.{arith}
 use borrow.Author.Tests.{ne_eqb}
 use mathlib.Core.Bool.{Bool, true, false, cond, ◌&&◌}
+use Rattle.std.proofs.Common.{Option}
 use mathlib.Core.List.{List, [], ◌∷◌}
 use mathlib.Core.Path.{◌≡◌, refl, ap, ◌∙◌}
 use lib.Dec.{leb, eqb}
@@ -12,7 +13,7 @@ use Rattle.case_frame.specs.declared.Frame.{Frame}
 use Rattle.case_frame.specs.Frames.{opening_length, bytes_length, most_frame_bytes, operation_length, opening_of, bytes_frame_of, operation_of, frame_by, frame_of, numbers_of, length_allowed, values_on, numbers_on, FramesNumbered}
 
 -- a test that chooses between a frame and none
-chosen : (t : Bool) (f g : Frame) (x y : List ℕ) → numbers_of f ≡ x → numbers_of g ≡ y → numbers_of (cond t f g) ≡ cond t x y
+chosen : (t : Bool) (f g : Option Frame) (x y : List ℕ) → numbers_of f ≡ x → numbers_of g ≡ y → numbers_of (cond t f g) ≡ cond t x y
 chosen true f g x y e d = e
 chosen false f g x y e d = d
 
@@ -38,6 +39,6 @@ frames_numbered s =
     let digits : Bool = leb byte_digits (length s) && all_digits s in
     chosen digits _ _ _ _ (by_kind (number_at s 0 byte_digits) s) refl ∙ two digits _ _ _
 
--- a frame with its numbers
-pub numbered : (s : List ℕ) (r : Frame) → r ≡ frame_of s → (r ≡ frame_of s) × (numbers_of r ≡ numbers_on s)
-numbered s r e = (e, ap numbers_of e ∙ frames_numbered s)
+-- the numbers of a frame that is known
+pub numbered : (s : List ℕ) (f : Option Frame) → f ≡ frame_of s → numbers_of f ≡ numbers_on s
+numbered s f e = ap numbers_of e ∙ frames_numbered s

@@ -1,10 +1,11 @@
 -- The frame that a line of a case stands for. The line is without its newline.
-use Rattle.std.specs.Prelude.{ℕ, ◌+◌, ◌-◌, ◌*◌, ◌/◌, ◌%◌, max, Bool, true, false, cond, ◌&&◌, ◌||◌, List, [], ◌∷◌, ◌≡◌, length, leb, eqb}
+use Rattle.std.specs.Prelude.{ℕ, ◌+◌, ◌-◌, ◌*◌, ◌/◌, ◌%◌, max, Option, None, Some, Bool, cond, ◌&&◌, ◌||◌, List, [], ◌∷◌, ◌≡◌, length, leb, eqb}
 use Rattle.word.specs.Sum.{tabulate}
 use Rattle.operation.specs.Layout.{words_per_operation}
 use Rattle.case_hexadecimal.specs.Digits.{byte_digits, number_digits, word_digits, all_digits, number_at}
+use Rattle.case_frame.specs.declared.Target.{Target}
 use Rattle.case_frame.specs.declared.Frame.{Frame}
-use Rattle.case_frame.specs.declared.Frame.TheVariants.{Opening, Bytes, Operation, Bad}
+use Rattle.case_frame.specs.declared.Frame.TheVariants.{Opening, Bytes, Operation}
 
 -- ---- where the parts of a frame lie, behind its kind
 
@@ -80,65 +81,65 @@ operation_length = words_column + word_digits * words_per_operation
 abbrev pub longest_frame : ℕ
 longest_frame = max operation_length (bytes_length most_frame_bytes)
 
--- ---- the frames
+-- ---- the frames; a line that is none of them has no frame
 
 -- 01: byte order, A (2 digits each), lengths of unique, register, ram and budget (8 each), wordsizes of unique, register, ram (2 each).
-unfoldable pub opening_of : (line : List ℕ) → Frame
+unfoldable pub opening_of : (line : List ℕ) → Option Frame
 opening_of s =
     cond (eqb (length s) opening_length)
-    (Opening
+    (Some (Opening
     (record {
       order = number_at s order_column byte_digits;
       address_size = number_at s address_size_column byte_digits;
       wordsizes = record { unique = number_at s unique_wordsize_column byte_digits; register = number_at s register_wordsize_column byte_digits; ram = number_at s ram_wordsize_column byte_digits };
     })
     (record { unique = number_at s unique_column number_digits; register = number_at s register_column number_digits; ram = number_at s ram_column number_digits })
-    (number_at s budget_column number_digits))
-    Bad
+    (number_at s budget_column number_digits)))
+    None
 
 -- 02: space, offset (8), 1 to 32 bytes; 03: the same with labels.
-unfoldable pub bytes_frame_of : (labels : Bool) → (line : List ℕ) → Frame
-bytes_frame_of labels s =
+unfoldable pub bytes_frame_of : Target → (line : List ℕ) → Option Frame
+bytes_frame_of target s =
     cond (leb (bytes_length 1) (length s) && leb (length s) (bytes_length most_frame_bytes) && eqb (length s % byte_digits) 0)
-    (Bytes labels (number_at s space_column byte_digits) (number_at s offset_column number_digits) ((length s - bytes_column) / byte_digits))
-    Bad
+    (Some (Bytes target (number_at s space_column byte_digits) (number_at s offset_column number_digits) ((length s - bytes_column) / byte_digits)))
+    None
 
 -- The bytes or labels of such a line, of which it has n.
 unfoldable pub bytes_on : (n : ℕ) → (line : List ℕ) → List ℕ
 bytes_on n s = tabulate n (λ i. number_at s (bytes_length i) byte_digits)
 
 -- 04: the words of an operation, 16 digits each.
-unfoldable pub operation_of : (line : List ℕ) → Frame
-operation_of s = cond (eqb (length s) operation_length) Operation Bad
+unfoldable pub operation_of : (line : List ℕ) → Option Frame
+operation_of s = cond (eqb (length s) operation_length) (Some Operation) None
 
 -- The words of such a line.
 unfoldable pub words_on : (line : List ℕ) → List ℕ
 words_on s = tabulate words_per_operation (λ k. number_at s (words_column + word_digits * k) word_digits)
 
 -- The frame's kind is its first two digits.
-unfoldable pub frame_by : (kind : ℕ) → (line : List ℕ) → Frame
+unfoldable pub frame_by : (kind : ℕ) → (line : List ℕ) → Option Frame
 frame_by kind s =
     cond (eqb kind 1) (opening_of s)
-    (cond (eqb kind 2) (bytes_frame_of false s)
-    (cond (eqb kind 3) (bytes_frame_of true s)
-    (cond (eqb kind 4) (operation_of s) Bad)))
+    (cond (eqb kind 2) (bytes_frame_of Target.Memory s)
+    (cond (eqb kind 3) (bytes_frame_of Target.Labels s)
+    (cond (eqb kind 4) (operation_of s) None)))
 
 -- Any other line, and one with a character that is no digit, is bad.
-unfoldable pub frame_of : (line : List ℕ) → Frame
-frame_of s = cond (leb byte_digits (length s) && all_digits s) (frame_by (number_at s 0 byte_digits) s) Bad
+unfoldable pub frame_of : (line : List ℕ) → Option Frame
+frame_of s = cond (leb byte_digits (length s) && all_digits s) (frame_by (number_at s 0 byte_digits) s) None
 
 -- ---- the numbers of a frame
 
 -- What each answer says in numbers: the frame's number, 0 for a bad line, then its values in the order of the line; of 02 and 03 then
 -- how many bytes or labels.
-unfoldable pub numbers_of : Frame → List ℕ
-numbers_of (Opening settings lengths budget) =
+unfoldable pub numbers_of : Option Frame → List ℕ
+numbers_of (Some (Opening settings lengths budget)) =
     1 ∷ settings.order ∷ settings.address_size ∷ lengths.unique ∷ lengths.register ∷ lengths.ram ∷ budget
     ∷ settings.wordsizes.unique ∷ settings.wordsizes.register ∷ settings.wordsizes.ram ∷ []
-numbers_of (Bytes false space offset count) = 2 ∷ space ∷ offset ∷ count ∷ []
-numbers_of (Bytes true space offset count) = 3 ∷ space ∷ offset ∷ count ∷ []
-numbers_of Operation = 4 ∷ []
-numbers_of Bad = 0 ∷ []
+numbers_of (Some (Bytes Target.Memory space offset count)) = 2 ∷ space ∷ offset ∷ count ∷ []
+numbers_of (Some (Bytes Target.Labels space offset count)) = 3 ∷ space ∷ offset ∷ count ∷ []
+numbers_of (Some Operation) = 4 ∷ []
+numbers_of None = 0 ∷ []
 
 -- Whether a frame of a kind can have this many digits. Digits and columns are written as numbers from here on, so that a slip in those
 -- named above shows.

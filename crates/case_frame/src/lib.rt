@@ -1,13 +1,11 @@
 // A line of a case as a frame.
 #![tactic(auto)]
 
-ghost use Rattle.std.specs.Prelude.{◌≡◌, ◌+◌, ◌≤◌, length};
-ghost use Rattle.std.proofs.lemmas.List.Edits.{sets};
+ghost use Rattle.std.specs.Prelude.{◌≡◌, ◌≤◌, length};
 ghost use Rattle.operation.specs.Layout.{words_per_operation};
 ghost use Rattle.case_frame.specs.Frames.{bytes_length, operation_length, opening_of, bytes_frame_of, operation_of, frame_by, frame_of, numbers_of, numbers_on, bytes_on, words_on};
 
 use case_hexadecimal::{BYTE_DIGITS, NUMBER_DIGITS, WORD_DIGITS, all_digits, number};
-use integer::boolean::both;
 use operation::layout::{Lengths, Settings, WORDS_PER_OPERATION, Wordsizes};
 
 // Where the parts of frame 01 lie, behind its kind, and the digits of its line.
@@ -49,14 +47,21 @@ const WORDS_COLUMN: usize = BYTE_DIGITS;
 
 const OPERATION_LENGTH: usize = WORDS_COLUMN + WORD_DIGITS * WORDS_PER_OPERATION;
 
-// The digits of the longest line that is a frame.
+// The digits of the longest line that is a frame. A constant calls no `max`.
 pub const LONGEST_FRAME: usize = if OPERATION_LENGTH < LONGEST_BYTES {
     LONGEST_BYTES
 } else {
     OPERATION_LENGTH
 };
 
-// What a line stands for: frame 01, frames 02 and 03, frame 04, or none of them.
+// Where the bytes of a line go: into the memory, or into its labels.
+#[derive(Clone, Copy)]
+pub enum Target {
+    Memory,
+    Labels,
+}
+
+// What a line stands for: frame 01, frames 02 and 03, or frame 04.
 #[derive(Drop)]
 pub enum Frame {
     Opening {
@@ -65,128 +70,107 @@ pub enum Frame {
         budget: u32,
     },
     Bytes {
-        labels: bool,
+        target: Target,
         space: u64,
         offset: u64,
         count: usize,
     },
     Operation,
-    Bad,
 }
 
-// The frame of a line without its newline.
-pub fn frame_of(s: &[u8]) -> Frame
+// The frame of a line without its newline; a bad line has none.
+#[tactic(auto, using(std::proofs::lemmas::Bool::Decides::nat_tests), unfolding(crate::specs::Frames::frame_of))]
+pub fn frame_of(s: &[u8]) -> Option<Frame>
     ensures answer { result ≡ frame_of s.now }
     ensures numbers { numbers_of result ≡ numbers_on s.now }
 {
-    let plain = all_digits(s);
-    if both(BYTE_DIGITS <= s.len(), plain) {
-        let kind = number(s, 0, BYTE_DIGITS);
-        return frame_by(kind, s);
+    if s.len() < BYTE_DIGITS || !all_digits(s) {
+        return None;
     }
-    Frame::Bad
+    frame_by(number(s, 0, BYTE_DIGITS), s)
 }
 
-fn frame_by(kind: u64, s: &[u8]) -> Frame
+#[tactic(auto, using(std::proofs::lemmas::Bool::Decides::nat_tests), unfolding(crate::specs::Frames::frame_by))]
+fn frame_by(kind: u64, s: &[u8]) -> Option<Frame>
     ensures { result ≡ frame_by kind s.now }
 {
-    if kind == 1 {
-        return opening_of(s);
+    match kind {
+        1 => opening_of(s),
+        2 => bytes_frame_of(Target::Memory, s),
+        3 => bytes_frame_of(Target::Labels, s),
+        4 => operation_of(s),
+        _ => None,
     }
-    if kind == 2 {
-        return bytes_frame_of(false, s);
-    }
-    if kind == 3 {
-        return bytes_frame_of(true, s);
-    }
-    if kind == 4 {
-        return operation_of(s);
-    }
-    Frame::Bad
 }
 
-fn opening_of(s: &[u8]) -> Frame
+#[tactic(auto, using(std::proofs::lemmas::Bool::Decides::nat_tests), unfolding(crate::specs::Frames::opening_of))]
+fn opening_of(s: &[u8]) -> Option<Frame>
     ensures { result ≡ opening_of s.now }
 {
     if s.len() != OPENING_LENGTH {
-        return Frame::Bad;
+        return None;
     }
-    let order = number(s, ORDER_COLUMN, BYTE_DIGITS);
-    let address_size = number(s, ADDRESS_SIZE_COLUMN, BYTE_DIGITS);
-    let unique = number(s, UNIQUE_COLUMN, NUMBER_DIGITS);
-    let register = number(s, REGISTER_COLUMN, NUMBER_DIGITS);
-    let ram = number(s, RAM_COLUMN, NUMBER_DIGITS);
-    let budget = number(s, BUDGET_COLUMN, NUMBER_DIGITS);
-    let unique_wordsize = number(s, UNIQUE_WORDSIZE_COLUMN, BYTE_DIGITS);
-    let register_wordsize = number(s, REGISTER_WORDSIZE_COLUMN, BYTE_DIGITS);
-    let ram_wordsize = number(s, RAM_WORDSIZE_COLUMN, BYTE_DIGITS);
-    Frame::Opening {
-        settings: Settings {
-            order: order,
-            address_size: address_size,
-            wordsizes: Wordsizes {
-                unique: unique_wordsize,
-                register: register_wordsize,
-                ram: ram_wordsize,
-            },
+    let settings = Settings {
+        order: number(s, ORDER_COLUMN, BYTE_DIGITS),
+        address_size: number(s, ADDRESS_SIZE_COLUMN, BYTE_DIGITS),
+        wordsizes: Wordsizes {
+            unique: number(s, UNIQUE_WORDSIZE_COLUMN, BYTE_DIGITS),
+            register: number(s, REGISTER_WORDSIZE_COLUMN, BYTE_DIGITS),
+            ram: number(s, RAM_WORDSIZE_COLUMN, BYTE_DIGITS),
         },
-        lengths: Lengths {
-            unique: unique,
-            register: register,
-            ram: ram,
-        },
-        budget: budget as u32,
-    }
+    };
+    let lengths = Lengths {
+        unique: number(s, UNIQUE_COLUMN, NUMBER_DIGITS),
+        register: number(s, REGISTER_COLUMN, NUMBER_DIGITS),
+        ram: number(s, RAM_COLUMN, NUMBER_DIGITS),
+    };
+    let budget = number(s, BUDGET_COLUMN, NUMBER_DIGITS) as u32;
+    Some(Frame::Opening {
+        settings,
+        lengths,
+        budget,
+    })
 }
 
-fn bytes_frame_of(labels: bool, s: &[u8]) -> Frame
-    ensures { result ≡ bytes_frame_of labels s.now }
+#[tactic(auto, using(std::proofs::lemmas::Bool::Decides::nat_tests), unfolding(crate::specs::Frames::bytes_frame_of))]
+fn bytes_frame_of(target: Target, s: &[u8]) -> Option<Frame>
+    ensures { result ≡ bytes_frame_of target s.now }
 {
     let n = s.len();
-    let in_range = both(SHORTEST_BYTES <= n, n <= LONGEST_BYTES);
-    if both(in_range, n % BYTE_DIGITS == 0) {
-        let space = number(s, SPACE_COLUMN, BYTE_DIGITS);
-        let offset = number(s, OFFSET_COLUMN, NUMBER_DIGITS);
-        return Frame::Bytes {
-            labels: labels,
-            space: space,
-            offset: offset,
-            count: (n - BYTES_COLUMN) / BYTE_DIGITS,
-        };
+    if n < SHORTEST_BYTES || LONGEST_BYTES < n || n % BYTE_DIGITS != 0 {
+        return None;
     }
-    Frame::Bad
+    Some(Frame::Bytes {
+        target,
+        space: number(s, SPACE_COLUMN, BYTE_DIGITS),
+        offset: number(s, OFFSET_COLUMN, NUMBER_DIGITS),
+        count: (n - BYTES_COLUMN) / BYTE_DIGITS,
+    })
 }
 
-fn operation_of(s: &[u8]) -> Frame
+#[tactic(auto, using(std::proofs::lemmas::Bool::Decides::nat_tests), unfolding(crate::specs::Frames::operation_of))]
+fn operation_of(s: &[u8]) -> Option<Frame>
     ensures { result ≡ operation_of s.now }
 {
-    if s.len() == OPERATION_LENGTH {
-        Frame::Operation
-    } else {
-        Frame::Bad
+    (s.len() == OPERATION_LENGTH).then_some(Frame::Operation)
+}
+
+// Stores the bytes of a 02 line, or the labels of a 03 line.
+pub fn store_bytes(s: &[u8], to: &mut [u8])
+    requires { bytes_length (length to.old) ≤ length s.now }
+    ensures { to.new ≡ bytes_on (length to.old) s.now }
+{
+    for (i, byte) in to.iter_mut().enumerate() {
+        *byte = number(s, BYTES_COLUMN + BYTE_DIGITS * i, BYTE_DIGITS) as u8;
     }
 }
 
-// Stores the bytes of a 02 line, or the labels of a 03 line, at a place.
-pub fn store_bytes(s: &[u8], n: usize, memory: &mut [u8], place: usize)
-    requires { (bytes_length n ≤ length s.now) × (place + n ≤ length memory.old) }
-    ensures { memory.new ≡ sets memory.old place (bytes_on n s.now) }
+// Stores the words of a 04 line.
+pub fn store_words(s: &[u8], to: &mut [u64])
+    requires { (operation_length ≤ length s.now) × (length to.old ≡ words_per_operation) }
+    ensures { to.new ≡ words_on s.now }
 {
-    let mut i = 0;
-    while i < n {
-        memory[place + i] = number(s, BYTES_COLUMN + BYTE_DIGITS * i, BYTE_DIGITS) as u8;
-        i += 1;
-    }
-}
-
-// Stores the words of a 04 line at a place.
-pub fn store_words(s: &[u8], words: &mut [u64], place: usize)
-    requires { (operation_length ≤ length s.now) × (place + words_per_operation ≤ length words.old) }
-    ensures { words.new ≡ sets words.old place (words_on s.now) }
-{
-    let mut i = 0;
-    while i < WORDS_PER_OPERATION {
-        words[place + i] = number(s, WORDS_COLUMN + WORD_DIGITS * i, WORD_DIGITS);
-        i += 1;
+    for (k, word) in to.iter_mut().enumerate() {
+        *word = number(s, WORDS_COLUMN + WORD_DIGITS * k, WORD_DIGITS);
     }
 }

@@ -1,29 +1,47 @@
--- Laws of hexadecimal text: a turn of each loop, and the range of a number.
-use Prim.Native.Nat.{ℕ, zero, suc, ◌+◌, ◌-◌, ◌*◌, ◌%◌, ◌^◌, ◌≤◌, ◌<◌}
-use mathlib.Core.Path.{◌≡◌}
-use mathlib.Core.Bool.{true, false}
-use mathlib.Core.List.{List}
-use native.Mathlib.Numerals.{add-one}
-use native.Mathlib.Omega.{arith}
+-- Laws of hexadecimal text: the digits of a text, a turn of the loop over a number, and the range of a number.
+use Rattle.std.proofs.Common.{ℕ, zero, suc, ◌+◌, ◌-◌, ◌*◌, ◌%◌, ◌^◌, ◌<◌, ◌≡◌, Option, None, Some, MatchOption, unwrap_or, List, [], ◌∷◌, length, get_or, take, drop, ltb, refl, ap, ◌∙◌, Bool, true, false, cond, ◌&&◌, is_some, arith, add-one}
+use Rattle.std.specs.List.{list_all}
+use Rattle.std.proofs.lemmas.Bool.Decides.{nat_tests}
+use Rattle.std.proofs.Math.ListN.{length-take}
+use Rattle.std.proofs.Math.Seq.{get_or-take, get_or-drop}
 use native.Mathlib.Nat.{pow-suc, pow-le-pow_right, mod-lt}
-use borrow.Author.Tests.{lt-ltb, le-ltb}
-use lib.ListN.{length, get_or, drop, drop_of_length-le}
-use lib.Seq.{drop-cons}
 use Rattle.case_hexadecimal.specs.Digits.{word_digits, digit_of, all_digits, number_at}
 
-pub digits_end : (s : List ℕ) (i : ℕ) → length s ≤ i → true ≡ all_digits (drop i s)
+-- every character passes the test of one
+pub all_pass : (s : List ℕ) → list_all (λ c. ltb (digit_of c) 16) s ≡ all_digits s
 unfolding all_digits
-digits_end s i h = rw (drop_of_length-le s h)
+all_pass [] = refl
+all_pass (c ∷ s) = ap (λ t. ltb (digit_of c) 16 && t) (all_pass s) ∙ by (ltb (digit_of c) 16)
+  where
+    by : (t : Bool) → t && all_digits s ≡ cond t (all_digits s) false
+    by true = refl
+    by false = refl
 
-pub digits_stop : (s : List ℕ) (i : ℕ) → i < length s → 16 ≤ digit_of (get_or s i 0) → false ≡ all_digits (drop i s)
-unfolding all_digits
-digits_stop s i h g = rw (drop-cons s i 0 h, le-ltb _ _ g)
+-- what `digit` answers of a character
+abbrev pub Answers : (c : ℕ) → Option ℕ → Type 0
+Answers c d = MatchOption d (digit_of c ≡ 16) (λ n. (n < 16) × (n ≡ digit_of c))
 
-pub digits_more : (s : List ℕ) (i : ℕ) → i < length s → digit_of (get_or s i 0) < 16 → all_digits (drop i s) ≡ all_digits (drop (i + 1) s)
-unfolding all_digits
-digits_more s i h g = rw (add-one, drop-cons s i 0 h, lt-ltb _ _ g)
+-- a character is a digit where there is an answer
+pub digit_known : (c : ℕ) (d : Option ℕ) → Answers c d → is_some d ≡ ltb (digit_of c) 16
+digit_known c None h = rw h
+digit_known c (Some n) h = grind (arith, nat_tests)
 
-pub number_more : (s : List ℕ) (at k : ℕ) {n d : ℕ} → n ≡ number_at s at k → d ≡ digit_of (get_or s (at + k) 0) → n * 16 + d % 16 ≡ number_at s at (k + 1)
+-- a character that is no digit counts as 0
+pub digit_counts : (c : ℕ) (d : Option ℕ) → Answers c d → unwrap_or d 0 ≡ digit_of c % 16
+digit_counts c None h = rw h
+digit_counts c (Some n) h = omega (arith, h.0, h.1)
+
+pub counts_low : (c : ℕ) (d : Option ℕ) → Answers c d → unwrap_or d 0 < 16
+counts_low c None h = omega arith
+counts_low c (Some n) h = h.0
+
+-- the digits at a place, one by one
+pub turn : (s : List ℕ) (at k i : ℕ) → i < length (take (at + k - at) (drop at s)) → (i < k) × (get_or (take (at + k - at) (drop at s)) i 0 ≡ get_or s (at + i) 0)
+turn s at k i h =
+    let few : i < at + k - at = omega (arith, length-take (at + k - at) (drop at s)) in
+    (omega arith, get_or-take (at + k - at) (drop at s) i 0 few ∙ get_or-drop at s i 0)
+
+pub number_more : (s : List ℕ) (at k : ℕ) {n d : ℕ} → n ≡ number_at s at k → d ≡ digit_of (get_or s (at + k) 0) % 16 → n * 16 + d ≡ number_at s at (k + 1)
 unfolding number_at
 number_more s at k p q = rw (add-one, p, q)
 

@@ -1,29 +1,26 @@
--- The part of a space that the code takes for a line is the line's bytes.
-use Prim.Native.Nat.{ℕ, ◌+◌, ◌-◌, ◌*◌, ◌≤◌, ◌<◌, min}
-use mathlib.Core.Path.{◌≡◌, refl, sym, ◌∙◌}
-use mathlib.Core.Bool.{Bool, true, false}
-use mathlib.Core.List.{List}
-use native.Mathlib.Omega.{arith}
-use borrow.Author.Tests.{leb-true, leb-false}
-use lib.Dec.{leb}
-use lib.ListN.{length, take, drop, length-drop}
-use lib.Seq.{take_all}
+-- A space cut into the bytes of its lines, from the front.
+use Rattle.std.proofs.Common.{◌≡◌, ap, sym, ◌∙◌, ℕ, ◌+◌, ◌*◌, ◌≤◌, List, [], ◌∷◌, ◌++◌, length, take, drop, length-append, append-nil, drop-drop, arith}
+use Prim.Native.Nat.{min}
+use lib.Seq.{take_all, take-append_seam, drop-append_seam}
+use Rattle.std.proofs.lemmas.List.{drop_all}
 use Rattle.case_printing.specs.Text.{bytes_per_line, line_bytes}
 
-up_to : (s : List ℕ) (from to : ℕ) → to ≡ min (from + bytes_per_line) (length s)
-    → take (to - from) (drop from s) ≡ take bytes_per_line (drop from s)
-up_to s from to e = by (leb (from + bytes_per_line) (length s)) refl
-  where
-    by : (t : Bool) → leb (from + bytes_per_line) (length s) ≡ t → take (to - from) (drop from s) ≡ take bytes_per_line (drop from s)
-    by true h =
-        let whole : from + bytes_per_line ≤ length s = leb-true _ _ h in
-        let all : to - from ≡ bytes_per_line = omega arith in
-        rw all
-    by false h =
-        let shorter : length s < from + bytes_per_line = leb-false _ _ h in
-        take_all (to - from) (drop from s) (rw length-drop (omega arith)) ∙ sym (take_all bytes_per_line (drop from s) (rw length-drop (omega arith)))
+cut : (part after : List ℕ) → length part ≡ min bytes_per_line (length (part ++ after))
+    → (take bytes_per_line (part ++ after) ≡ part) × (drop bytes_per_line (part ++ after) ≡ after)
+cut part [] long =
+    let short : length part ≤ bytes_per_line = omega (arith, length-append part []) in
+    rw append-nil (take_all bytes_per_line part short, drop_all bytes_per_line part short)
+cut part (x ∷ after) long =
+    let whole : bytes_per_line ≡ length part = omega (arith, length-append part (x ∷ after)) in
+    rw whole (take-append_seam part (x ∷ after), drop-append_seam part (x ∷ after))
 
-pub line_part : (s : List ℕ) (k to : ℕ) → to ≡ min (bytes_per_line * k + bytes_per_line) (length s)
-    → take (to - bytes_per_line * k) (drop (bytes_per_line * k) s) ≡ line_bytes s k
+-- the front of what is left of a space, and what is left behind it
+pub next_line : (s : List ℕ) (k : ℕ) (rest part after : List ℕ) → rest ≡ drop (bytes_per_line * k) s
+    → rest ≡ part ++ after → length part ≡ min bytes_per_line (length rest)
+    → (part ≡ line_bytes s k) × (after ≡ drop (bytes_per_line * (k + 1)) s)
 unfolding line_bytes
-line_part s k to e = up_to s (bytes_per_line * k) to e
+next_line s k rest part after e split long =
+    let parts = cut part after (long ∙ ap (λ l. min bytes_per_line (length l)) split) in
+    let front = rw (← split, e) at parts in
+    let place : bytes_per_line * (k + 1) ≡ bytes_per_line * k + bytes_per_line = omega arith in
+    (sym front.0, rw (place, ← drop-drop) (sym front.1))

@@ -1,9 +1,6 @@
--- Text put into a lent buffer, behind what it already holds.
-use Rattle.std.specs.Prelude.{ℕ, ◌+◌, ◌≤◌, ◌≡◌, List, ◌++◌, length, take, drop}
+-- Text put behind what a buffer already holds.
+use Rattle.std.specs.Prelude.{◌≡◌, ℕ, List, ◌++◌}
 
--- `after` is `before` with `text` from `at` up to `end`. The last field follows from the others; every caller asks for it.
-pub record Appended (at : ℕ) (before text : List ℕ) (end : ℕ) (after : List ℕ) : Type 0 where
-  pub next : end ≡ at + length text
-  pub room : end ≤ length before
-  pub same : after ≡ take at before ++ text ++ drop end before
-  pub long : length after ≡ length before
+-- `after` is `before` with `text` behind it.
+pub record Appended (before text after : List ℕ) : Type 0 where
+  pub same : after ≡ before ++ text

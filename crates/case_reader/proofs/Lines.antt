@@ -1,5 +1,8 @@
 -- A byte more of a text: what the reader then holds is what the definition says of the longer text.
 use Prim.Native.Nat.{ℕ, ◌+◌, ◌≤◌, ◌<◌, min}
+use Rattle.std.proofs.Common.{None, Result, Ok, Err, OnOk, OnErr, ◌↔◌}
+use Rattle.std.specs.Result.{IsOk}
+use Rattle.arrayvec.specs.ArrayVec.{ArrayVec}
 use mathlib.Core.Path.{◌≡◌, refl, sym, ap, ◌∙◌}
 use mathlib.Core.Bool.{Bool, true, false, cond}
 use mathlib.Core.List.{List, [], ◌∷◌, ◌++◌, append-nil, append_assoc}
@@ -7,16 +10,15 @@ use native.Mathlib.Numerals.{add-one}
 use native.Mathlib.Omega.{arith}
 use borrow.Author.Tests.{eq-eqb, ne_eqb, ltb-true, ltb-false}
 use lib.Dec.{eqb, ltb}
-use lib.ListN.{length, take, set, get_or, length-append, length-take, length-set}
-use lib.Seq.{take_all, take-nil, take-append-le, length-take-le, take-suc-set, take-suc}
+use lib.ListN.{length, take, get_or, length-append, length-take}
+use lib.Seq.{take_all, take-nil, take-append-le, length-take-le, take-suc}
 use Rattle.case_frame.specs.Frames.{frame_of}
-use Rattle.case_frame.specs.declared.Frame.TheVariants.{Bad}
 use Rattle.case_frame.proofs.Laws.{long_bad}
 use Rattle.case_reader.specs.Limits.{line_room}
 use Rattle.case_reader.specs.Case.{Progress, line_added, after_line}
 use Rattle.case_reader.specs.Lines.{newline, lines_of, rest_of, LinesRead, next_number, no_line, line_read, lines_read}
-use Rattle.case_reader.specs.Buffers.{progress_in, Fed}
-use Rattle.case_reader.specs.Stream.{ReaderFits, HasRead, Advanced}
+use Rattle.case_reader.specs.Buffers.{progress_in}
+use Rattle.case_reader.specs.Stream.{HasRead, Advanced}
 use Rattle.case_reader.specs.declared.line.Stage.{Stage}
 use Rattle.case_reader.specs.declared.stream.Reader.{Reader}
 
@@ -60,7 +62,7 @@ read_more r (t ∷ ss) s = read_more (line_read r t) ss s
 
 -- ---- a line longer than its room is bad, whole or cut
 
-bad_alike : (n : ℕ) (s t : List ℕ) (p : Progress) → frame_of s ≡ Bad → frame_of t ≡ Bad → after_line n s p ≡ after_line n t p
+bad_alike : (n : ℕ) (s t : List ℕ) (p : Progress) → frame_of s ≡ None → frame_of t ≡ None → after_line n s p ≡ after_line n t p
 unfolding after_line line_added
 bad_alike n s t Progress.nothing e f = rw (e, f)
 bad_alike n s t (Progress.reading c) e f = rw (e, f)
@@ -78,87 +80,54 @@ cut_line n s p = by (ltb line_room (length s)) refl
 
 -- ---- what the reader holds after one byte more
 
--- the line buffer holds as much of the unfinished line as it has room for
-pub have_of : (text : List ℕ) (r : Reader) (line m ls ws : List ℕ) → ReaderFits r line m ls ws → HasRead text r line m ls ws
-    → r.have ≡ min line_room (length (rest_of [] text))
-have_of text r line m ls ws f h =
-    sym (length-take-le r.have line (omega (arith, f.have, f.room))) ∙ ap length h.rest ∙ length-take line_room (rest_of [] text)
+-- the reader holds as much of the unfinished line as it has room for
+pub held : (text : List ℕ) (r : Reader) → HasRead text r → length r.line.items ≡ min line_room (length (rest_of [] text))
+held text r h = ap length h.rest ∙ length-take line_room (rest_of [] text)
 
-module _ (text : List ℕ) (r : Reader) (line m ls ws : List ℕ) (f : ReaderFits r line m ls ws) (h : HasRead text r line m ls ws) (b : ℕ) where
-  newline_read : b ≡ newline → {number : ℕ} → number ≡ next_number r.number → {g : Stage} {m' ls' ws' : List ℕ}
-      → Fed number (take r.have line) r.stage m ls ws g m' ls' ws'
-      → HasRead (text ++ (b ∷ [])) (record { have = 0; number = number; stage = g }) line m' ls' ws'
+module _ (text : List ℕ) (r : Reader) (h : HasRead text r) (b : ℕ) where
+  pub newline_read : b ≡ newline → {number : ℕ} → number ≡ next_number r.number → {g : Stage}
+      → progress_in g ≡ after_line number r.line.items (progress_in r.stage) → {l : ArrayVec ℕ} → l.items ≡ []
+      → HasRead (text ++ (b ∷ [])) (record { line = l; number = number; stage = g })
   unfolding line_read
-  newline_read e {number} k {g} {m'} {ls'} {ws'} d =
+  newline_read e {number} k {g} d i =
       record {
-        rest = rw (rest_more [] text b, eq-eqb b newline e) (sym (take-nil {A = ℕ} line_room));
+        rest = rw (i, rest_more [] text b, eq-eqb b newline e) (sym (take-nil {A = ℕ} line_room));
         lines =
             rw (lines_more [] text b, eq-eqb b newline e)
             (rw (← k) (ap (λ x. record { count = number; progress = x })
-            (d.same ∙ ap (λ x. after_line number x (progress_in r.stage m ls ws)) h.rest ∙ cut_line number (rest_of [] text) (progress_in r.stage m ls ws)))
+            (d ∙ ap (λ x. after_line number x (progress_in r.stage)) h.rest ∙ cut_line number (rest_of [] text) (progress_in r.stage)))
             ∙ ap (λ x. line_read x (rest_of [] text)) h.lines
             ∙ sym (read_more no_line (lines_of [] text) (rest_of [] text)));
       }
 
-  other_lines : (b ≡ newline → ⊥) → (record { count = r.number; progress = progress_in r.stage m ls ws }) ≡ lines_read no_line (lines_of [] (text ++ (b ∷ [])))
-  other_lines e = rw (lines_more [] text b, ne_eqb b newline e) h.lines
-
-  byte_read : (b ≡ newline → ⊥) → r.have < line_room
-      → HasRead (text ++ (b ∷ [])) (record { have = r.have + 1; number = r.number; stage = r.stage }) (set line r.have b) m ls ws
-  byte_read e k =
-      let few : length (rest_of [] text) < line_room = omega (arith, have_of text r line m ls ws f h, k) in
+  -- a byte more, or none where the room is full
+  pub byte_read : (b ≡ newline → ⊥) → {l : ArrayVec ℕ} {E : Type 0} (q : Result Unit E) → (IsOk q ↔ (length r.line.items < line_room))
+      → OnOk q (l.items ≡ r.line.items ++ (b ∷ [])) → OnErr q (l ≡ r.line) → OnErr q (length r.line.items ≡ line_room) → HasRead (text ++ (b ∷ [])) (record { line = l; number = r.number; stage = r.stage })
+  byte_read e {l} (Ok u) v x y z =
+      let few : length (rest_of [] text) < line_room = omega (arith, held text r h, v.0 refl) in
       let one : length (rest_of [] text ++ (b ∷ [])) ≤ line_room = rw length-append (omega (arith, few)) in
       record {
         rest =
-            rw (rest_more [] text b, ne_eqb b newline e, add-one, take-suc-set line r.have b (omega (arith, k, f.room)), h.rest)
+            rw (x, rest_more [] text b, ne_eqb b newline e, h.rest)
             (ap (λ x. x ++ (b ∷ [])) (take_all line_room (rest_of [] text) (omega (arith, few))) ∙ sym (take_all line_room (rest_of [] text ++ (b ∷ [])) one));
-        lines = other_lines e;
+        lines = rw (lines_more [] text b, ne_eqb b newline e) h.lines;
       }
-
-  byte_dropped : (b ≡ newline → ⊥) → line_room ≤ r.have → HasRead (text ++ (b ∷ [])) r line m ls ws
-  byte_dropped e k =
-      let many : line_room ≤ length (rest_of [] text) = omega (arith, have_of text r line m ls ws f h, k) in
+  byte_read e {l} (Err i) v x y z =
+      let many : line_room ≤ length (rest_of [] text) = omega (arith, held text r h, z) in
       record {
-        rest = rw (rest_more [] text b, ne_eqb b newline e) (h.rest ∙ sym (take-append-le line_room (rest_of [] text) (b ∷ []) many));
-        lines = other_lines e;
+        rest = rw (y, rest_more [] text b, ne_eqb b newline e) (h.rest ∙ sym (take-append-le line_room (rest_of [] text) (b ∷ []) many));
+        lines = rw (lines_more [] text b, ne_eqb b newline e) h.lines;
       }
 
--- ---- a byte, and a part byte by byte, as the reader's promise
-
-module _ (r : Reader) (line m ls ws : List ℕ) (f : ReaderFits r line m ls ws) (b : ℕ) where
-  pub pushed_newline : b ≡ newline → {number : ℕ} → number ≡ next_number r.number → {g : Stage} {m' ls' ws' : List ℕ}
-      → Fed number (take r.have line) r.stage m ls ws g m' ls' ws'
-      → Advanced (b ∷ []) r line m ls ws (record { have = 0; number = number; stage = g }) line m' ls' ws'
-  pushed_newline e k d =
-      record {
-        fits = record { room = f.room; have = omega arith; sound = d.sound };
-        read = λ text h. newline_read text r line m ls ws f h b e k d;
-      }
-
-  pub pushed_byte : (b ≡ newline → ⊥) → r.have < line_room
-      → Advanced (b ∷ []) r line m ls ws (record { have = r.have + 1; number = r.number; stage = r.stage }) (set line r.have b) m ls ws
-  pushed_byte e k =
-      record {
-        fits = record { room = simp length-set f.room; have = omega (arith, k); sound = f.sound };
-        read = λ text h. byte_read text r line m ls ws f h b e k;
-      }
-
-  pub pushed_past : (b ≡ newline → ⊥) → line_room ≤ r.have → Advanced (b ∷ []) r line m ls ws r line m ls ws
-  pushed_past e k = record { fits = f; read = λ text h. byte_dropped text r line m ls ws f h b e k }
-
-pub read_none : (r : Reader) (line m ls ws : List ℕ) → ReaderFits r line m ls ws → Advanced [] r line m ls ws r line m ls ws
-read_none r line m ls ws f = record { fits = f; read = λ text h. rw append-nil h }
+-- ---- a part, byte by byte
 
 -- the bytes before a place, and the one there
-pub read_one : (part : List ℕ) (i : ℕ) → i < length part → {r q s : Reader} {l₀ m₀ ls₀ ws₀ l₁ m₁ ls₁ ws₁ l₂ m₂ ls₂ ws₂ : List ℕ}
-    → Advanced (take i part) r l₀ m₀ ls₀ ws₀ q l₁ m₁ ls₁ ws₁ → Advanced (get_or part i 0 ∷ []) q l₁ m₁ ls₁ ws₁ s l₂ m₂ ls₂ ws₂
-    → Advanced (take (i + 1) part) r l₀ m₀ ls₀ ws₀ s l₂ m₂ ls₂ ws₂
-read_one part i k a b =
-    record {
-      fits = b.fits;
-      read = λ text h. rw (add-one, take-suc part i 0 k, ← append_assoc text (take i part) (get_or part i 0 ∷ [])) (b.read (text ++ take i part) (a.read text h));
-    }
+pub read_one : (part : List ℕ) (i : ℕ) → i < length part → {r q s : Reader} → Advanced (take i part) r q → Advanced (get_or part i 0 ∷ []) q s
+    → Advanced (take (i + 1) part) r s
+read_one part i k a b text h = rw (add-one, take-suc part i 0 k, ← append_assoc text (take i part) (get_or part i 0 ∷ [])) (b (text ++ take i part) (a text h))
 
-pub read_all : (part : List ℕ) (i : ℕ) → length part ≤ i → {r q : Reader} {l₀ m₀ ls₀ ws₀ l m ls ws : List ℕ}
-    → Advanced (take i part) r l₀ m₀ ls₀ ws₀ q l m ls ws → Advanced part r l₀ m₀ ls₀ ws₀ q l m ls ws
+pub read_none : (r : Reader) → Advanced [] r r
+read_none r text h = rw append-nil h
+
+pub read_all : (part : List ℕ) (i : ℕ) → length part ≤ i → {r q : Reader} → Advanced (take i part) r q → Advanced part r q
 read_all part i k a = rw (take_all i part k) at a

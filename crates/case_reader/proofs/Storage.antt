@@ -1,144 +1,137 @@
--- Three spaces in one buffer: zeros, lengths, and a store into one of them.
-use Prim.Native.Nat.{ℕ, zero, suc, ◌+◌, ◌-◌, ◌*◌, ◌≤◌, ◌<◌}
-use mathlib.Core.Path.{◌≡◌, refl, sym, ap, ◌∙◌}
-use mathlib.Core.Bool.{Bool, true, false, cond}
-use mathlib.Core.List.{List, [], ◌∷◌}
-use native.Mathlib.Nat.{add-suc}
-use native.Mathlib.Omega.{arith}
+-- The rooms of three spaces: zeros, lengths, and a store into one of them.
+use Rattle.std.proofs.Common.{ℕ, suc, ◌+◌, ◌-◌, ◌≤◌, ◌≡◌, Bool, true, false, cond, List, [], ◌∷◌, length, take, drop, set, replicate, leb, append_assoc, refl, ap, sym, ◌∙◌, arith}
+use Rattle.std.proofs.lemmas.List.{take-replicate}
+use Rattle.std.proofs.lemmas.List.Edits.{sets, sets-eq, paste_all}
+use Rattle.std.proofs.lemmas.Slice.{put_mid-paste}
+use Rattle.std.proofs.Math.ListN.{length-take, length-drop}
+use Rattle.word.proofs.Sums.{tabulate-length}
+use Rattle.std.proofs.Math.Seq.{take-set-lt, length-take-le}
+use borrow.Rule.Slice.PartMut.{put_mid}
+use borrow.Author.Tests.{eqb-true, leb-true}
 use lib.Dec.{eqb}
-use lib.ListN.{length, take, drop, set, replicate, length-replicate, get_or-replicate, length-drop}
-use lib.Seq.{sets, take-set-le, take-set-lt, drop-set-lt, drop-set-add, length-take-le, get_or-take, get_or-drop, ext_get_or}
 use Rattle.operation.specs.Spaces.{Lengths}
 use Rattle.operation.specs.Rules.{length_of}
-use Rattle.machine.specs.Memory.{Memory, spaces, lengths_of, space_of, with_space}
-use Rattle.case_reader.specs.Limits.{most_case_bytes, spaces_room}
-use Rattle.case_reader.specs.Case.{zeros, stored}
-use Rattle.case_reader.specs.Buffers.{memory_in, Zeros, Fits}
+use Rattle.machine.specs.Memory.{spaces, lengths_of, space_of, with_space}
+use Rattle.case_frame.specs.Frames.{bytes_on}
+use Rattle.case_reader.specs.Limits.{most_case_bytes, Fits}
+use Rattle.case_reader.specs.Case.{zeros, in_space, stored}
+use Rattle.case_reader.specs.Buffers.{memory_in}
+use Rattle.operation.specs.declared.layout.Spaces.{Spaces}
 
--- ---- stores and parts of a list
+-- rooms as their type has them
+pub record Whole (r : Spaces (List ℕ)) : Type 0 where
+  pub unique : length r.unique ≡ most_case_bytes
+  pub register : length r.register ≡ most_case_bytes
+  pub ram : length r.ram ≡ most_case_bytes
+
+-- rooms of zeros
+pub memory_zeros : (l : Lengths) → Fits l
+    → memory_in l (record { unique = replicate most_case_bytes 0; register = replicate most_case_bytes 0; ram = replicate most_case_bytes 0 }) ≡ zeros l
+unfolding memory_in zeros
+memory_zeros l f =
+    rw (
+      take-replicate {X = ℕ} l.unique most_case_bytes 0 f.unique,
+      take-replicate {X = ℕ} l.register most_case_bytes 0 f.register,
+      take-replicate {X = ℕ} l.ram most_case_bytes 0 f.ram,
+    )
+
+-- each space has its length
+pub space_length : (l : Lengths) → Fits l → (r : Spaces (List ℕ)) → Whole r → (space : ℕ) → length (space_of (memory_in l r) space) ≡ length_of l space
+unfolding memory_in space_of length_of
+space_length l f r w space = one (eqb space 2) (eqb space 3) (eqb space 4)
+  where
+    one : (p q t : Bool) → length (cond p (take l.unique r.unique) (cond q (take l.register r.register) (cond t (take l.ram r.ram) [])))
+        ≡ cond p l.unique (cond q l.register (cond t l.ram 0))
+    one true q t = length-take-le l.unique r.unique (omega (arith, w.unique, f.unique))
+    one false true t = length-take-le l.register r.register (omega (arith, w.register, f.register))
+    one false false true = length-take-le l.ram r.ram (omega (arith, w.ram, f.ram))
+    one false false false = refl
+
+-- bytes of one of the three spaces
+pub record Inside (space offset count : ℕ) : Type 0 where
+  pub low : 2 ≤ space
+  pub high : space ≤ 4
+  pub most : offset + count ≤ most_case_bytes
+
+known : (l : Lengths) → Fits l → (space offset count : ℕ) → 1 ≤ count → offset + count ≤ length_of l space → Inside space offset count
+unfolding length_of
+known l f space offset count some h = by (eqb space 2) (eqb space 3) (eqb space 4) refl refl refl h
+  where
+    by : (p q r : Bool) → eqb space 2 ≡ p → eqb space 3 ≡ q → eqb space 4 ≡ r
+        → offset + count ≤ cond p l.unique (cond q l.register (cond r l.ram 0)) → Inside space offset count
+    by true q r e2 e3 e4 k = let e = eqb-true space 2 e2 in record { low = omega (arith, e); high = omega (arith, e); most = omega (arith, k, f.unique) }
+    by false true r e2 e3 e4 k = let e = eqb-true space 3 e3 in record { low = omega (arith, e); high = omega (arith, e); most = omega (arith, k, f.register) }
+    by false false true e2 e3 e4 k = let e = eqb-true space 4 e4 in record { low = omega (arith, e); high = omega (arith, e); most = omega (arith, k, f.ram) }
+    by false false false e2 e3 e4 k = absurd (let z : ⊥ = omega arith in z)
+
+-- ---- a store into a part of a list
 
 take_sets_in : (n : ℕ) (l : List ℕ) (i : ℕ) (vs : List ℕ) → i + length vs ≤ n → take n (sets l i vs) ≡ sets (take n l) i vs
 take_sets_in n l i [] h = refl
 take_sets_in n l i (v ∷ vs) h =
     take_sets_in n (set l i v) (suc i) vs (omega arith) ∙ ap (λ x. sets x (suc i) vs) (take-set-lt n l i v (omega arith))
 
-take-sets-before : (n : ℕ) (l : List ℕ) (i : ℕ) (vs : List ℕ) → n ≤ i → take n (sets l i vs) ≡ take n l
-take-sets-before n l i [] h = refl
-take-sets-before n l i (v ∷ vs) h = take-sets-before n (set l i v) (suc i) vs (omega arith) ∙ take-set-le n l i v h
+-- what stands at the front of a list of which a part was written
+put_sets : (n at k : ℕ) (xs ys : List ℕ) → k ≡ length ys → at + length ys ≤ n → n ≤ length xs → take n (put_mid at k xs ys) ≡ sets (take n xs) at ys
+put_sets n at k xs ys e h r =
+    ap (take n)
+    (put_mid-paste at k xs ys ys (length ys) refl (sym e) refl
+    ∙ paste_all xs at ys (length ys) refl
+    ∙ sym (append_assoc (take at xs) ys (drop (at + length ys) xs))
+    ∙ sym (sets-eq ys xs at (omega arith)))
+    ∙ take_sets_in n xs at ys h
 
-drop-sets-after : (n : ℕ) (l : List ℕ) (i : ℕ) (vs : List ℕ) → i + length vs ≤ n → drop n (sets l i vs) ≡ drop n l
-drop-sets-after n l i [] h = refl
-drop-sets-after n l i (v ∷ vs) h = drop-sets-after n (set l i v) (suc i) vs (omega arith) ∙ drop-set-lt n l i v (omega arith)
+-- ---- bytes that a line stores, if all lie in the space
 
-drop_sets_in : (n : ℕ) (l : List ℕ) (i : ℕ) (vs : List ℕ) → drop n (sets l (n + i) vs) ≡ sets (drop n l) i vs
-drop_sets_in n l i [] = refl
-drop_sets_in n l i (v ∷ vs) =
-    ap (λ k. drop n (sets (set l (n + i) v) k vs)) (sym (add-suc n i))
-    ∙ drop_sets_in n (set l (n + i) v) (suc i) vs
-    ∙ ap (λ x. sets x (suc i) vs) (drop-set-add n l i v)
+module _ (l : Lengths) (f : Fits l) (space offset count : ℕ) {n : ℕ} {t : Bool} (e : n ≡ length_of l space) (g : t ≡ leb (offset + count) n) where
+  within : t ≡ true → offset + count ≤ length_of l space
+  within h = leb-true _ _ (sym (g ∙ ap (leb (offset + count)) e) ∙ h)
 
--- a part that ends before the stores begin
-take-drop-sets : (n : ℕ) (l : List ℕ) (i : ℕ) (vs : List ℕ) (k : ℕ) → n + k ≤ i → take k (drop n (sets l i vs)) ≡ take k (drop n l)
-take-drop-sets n l i vs k h =
-    let e : n + (i - n) ≡ i = omega arith in
-    ap (λ j. take k (drop n (sets l j vs))) (sym e)
-    ∙ ap (take k) (drop_sets_in n l (i - n) vs)
-    ∙ take-sets-before k (drop n l) (i - n) vs (omega arith)
+  pub inside : 1 ≤ count → t ≡ true → Inside space offset count
+  inside some h = known l f space offset count some (within h)
 
--- ---- zeros
+  pub extent : (r : Spaces (List ℕ)) → Whole r → in_space (memory_in l r) space offset count ≡ t
+  unfolding in_space
+  extent r w = ap (leb (offset + count)) (space_length l f r w space ∙ sym e) ∙ sym g
 
-zeros-drop : (n : ℕ) (l : List ℕ) → Zeros l → Zeros (drop n l)
-zeros-drop n l z i = get_or-drop n l i 0 ∙ z (n + i)
+  module _ (r : Spaces (List ℕ)) (w : Whole r) (some : 1 ≤ count) (h : t ≡ true) (s : List ℕ) {ys : List ℕ} where
+    -- the bytes of the line, in the room that they have
+    written : (xs : List ℕ) → length xs ≡ most_case_bytes → ys ≡ bytes_on (length (take (offset + count - offset) (drop offset xs))) s
+        → (ys ≡ bytes_on count s) × (length ys ≡ count)
+    unfolding bytes_on
+    written xs k p =
+        let i = inside some h in
+        let m : length (take (offset + count - offset) (drop offset xs)) ≡ count = simp (length-take, length-drop) (omega (arith, k, i.most)) in
+        let q : ys ≡ bytes_on count s = rw m at p in
+        (q, ap length q ∙ tabulate-length count _)
 
-zeros-take : (n : ℕ) (l : List ℕ) → Zeros l → n ≤ length l → take n l ≡ replicate n 0
-zeros-take n l z h =
-    let e : length (take n l) ≡ n = length-take-le n l h in
-    ext_get_or 0 (take n l) (replicate n 0) (e ∙ sym (length-replicate n 0))
-    (λ i k. let j : i < n = omega (arith, e) in get_or-take n l i 0 j ∙ z i ∙ sym (get_or-replicate n i 0 0 j))
+    put : (m : ℕ) (xs : List ℕ) → length xs ≡ most_case_bytes → m ≤ most_case_bytes → offset + count ≤ m
+        → ys ≡ bytes_on (length (take (offset + count - offset) (drop offset xs))) s
+        → take m (put_mid offset (offset + count - offset) xs ys) ≡ sets (take m xs) offset (bytes_on count s)
+    put m xs k few i p =
+        let b = written xs k p in
+        put_sets m offset (offset + count - offset) xs ys (omega (arith, b.1)) (omega (arith, b.1)) (omega (arith, k)) ∙ ap (sets (take m xs) offset) b.0
 
--- ---- the three spaces, over the room of each
+    pub stored_unique : space ≡ 2 → ys ≡ bytes_on (length (take (offset + count - offset) (drop offset r.unique))) s
+        → (in_space (memory_in l r) space offset count ≡ true)
+        × (memory_in l (record { unique = put_mid offset (offset + count - offset) r.unique ys; register = r.register; ram = r.ram })
+        ≡ stored (memory_in l r) space offset (bytes_on count s))
+    unfolding memory_in stored with_space space_of length_of
+    stored_unique k p = (extent r w ∙ h, rw (k, put l.unique r.unique w.unique f.unique (rw k at (within h)) p))
 
-module _ (room : ℕ) (l : Lengths) (u : l.unique ≤ room) (g : l.register ≤ room) (m : l.ram ≤ room) (b : List ℕ) (whole : length b ≡ 3 * room) where
-  abbrev by : List ℕ → Memory
-  by s = spaces (take l.unique s) (take l.register (drop room s)) (take l.ram (drop (2 * room) s))
+    pub stored_register : space ≡ 3 → ys ≡ bytes_on (length (take (offset + count - offset) (drop offset r.register))) s
+        → (in_space (memory_in l r) space offset count ≡ true)
+        × (memory_in l (record { unique = r.unique; register = put_mid offset (offset + count - offset) r.register ys; ram = r.ram })
+        ≡ stored (memory_in l r) space offset (bytes_on count s))
+    unfolding memory_in stored with_space space_of length_of
+    stored_register k p = (extent r w ∙ h, rw (k, put l.register r.register w.register f.register (rw k at (within h)) p))
 
-  drop_room : (n : ℕ) → length (drop n b) ≡ 3 * room - n
-  drop_room n = length-drop n b ∙ ap (λ k. k - n) whole
-
-  zeros_by : Zeros b → by b ≡ zeros l
-  unfolding zeros
-  zeros_by z =
-      rw (
-        zeros-take l.unique b z (omega (arith, whole)),
-        zeros-take l.register (drop room b) (zeros-drop room b z) (omega (arith, drop_room room)),
-        zeros-take l.ram (drop (2 * room) b) (zeros-drop (2 * room) b z) (omega (arith, drop_room (2 * room))),
-      )
-
-  length_by : (space : ℕ) → length (space_of (by b) space) ≡ length_of l space
-  unfolding space_of length_of
-  length_by space = one (eqb space 2) (eqb space 3) (eqb space 4)
-    where
-      one : (p q r : Bool) → length (cond p (take l.unique b) (cond q (take l.register (drop room b)) (cond r (take l.ram (drop (2 * room) b)) [])))
-          ≡ cond p l.unique (cond q l.register (cond r l.ram 0))
-      one true q r = length-take-le l.unique b (omega (arith, whole))
-      one false true r = length-take-le l.register (drop room b) (omega (arith, drop_room room))
-      one false false true = length-take-le l.ram (drop (2 * room) b) (omega (arith, drop_room (2 * room)))
-      one false false false = refl
-
-  stored_by : (space offset : ℕ) (bs : List ℕ) → 2 ≤ space → space ≤ 4 → offset + length bs ≤ length_of l space
-      → by (sets b ((space - 2) * room + offset) bs) ≡ stored (by b) space offset bs
-  unfolding stored with_space space_of length_of
-  stored_by zero offset bs low high h = absurd (let z : ⊥ = omega arith in z)
-  stored_by (suc zero) offset bs low high h = absurd (let z : ⊥ = omega arith in z)
-  stored_by (suc (suc zero)) offset bs low high h =
-      let e : (2 - 2) * room + offset ≡ offset = omega arith in
-      rw (
-        e,
-        take_sets_in l.unique b offset bs h,
-        drop-sets-after room b offset bs (omega arith),
-        drop-sets-after (2 * room) b offset bs (omega arith),
-      )
-  stored_by (suc (suc (suc zero))) offset bs low high h =
-      let e : (3 - 2) * room + offset ≡ room + offset = omega arith in
-      rw (
-        e,
-        take-sets-before l.unique b (room + offset) bs (omega arith),
-        drop_sets_in room b offset bs,
-        take_sets_in l.register (drop room b) offset bs h,
-        drop-sets-after (2 * room) b (room + offset) bs (omega arith),
-      )
-  stored_by (suc (suc (suc (suc zero)))) offset bs low high h =
-      let e : (4 - 2) * room + offset ≡ 2 * room + offset = omega arith in
-      rw (
-        e,
-        take-sets-before l.unique b (2 * room + offset) bs (omega arith),
-        drop_sets_in (2 * room) b offset bs,
-        take_sets_in l.ram (drop (2 * room) b) offset bs h,
-        take-drop-sets room b (2 * room + offset) bs l.register (omega arith),
-      )
-  stored_by (suc (suc (suc (suc (suc n))))) offset bs low high h = absurd (let z : ⊥ = omega arith in z)
-
--- ---- with room for the largest space
-
-module _ (l : Lengths) (fits : Fits l) (b : List ℕ) (whole : length b ≡ spaces_room) where
-  pub memory_zeros : Zeros b → memory_in l b ≡ zeros l
-  unfolding memory_in
-  memory_zeros z = zeros_by most_case_bytes l fits.unique fits.register fits.ram b whole z
-
-  pub space_length : (space : ℕ) → length (space_of (memory_in l b) space) ≡ length_of l space
-  unfolding memory_in
-  space_length space = length_by most_case_bytes l fits.unique fits.register fits.ram b whole space
-
-  pub memory_stored : (space offset : ℕ) (bs : List ℕ) → 2 ≤ space → space ≤ 4 → offset + length bs ≤ length_of l space
-      → memory_in l (sets b ((space - 2) * most_case_bytes + offset) bs) ≡ stored (memory_in l b) space offset bs
-  unfolding memory_in
-  memory_stored space offset bs low high h = stored_by most_case_bytes l fits.unique fits.register fits.ram b whole space offset bs low high h
-
--- a new buffer
-pub new_zeros : (n : ℕ) → Zeros (replicate n 0)
-new_zeros zero i = refl
-new_zeros (suc n) zero = refl
-new_zeros (suc n) (suc i) = new_zeros n i
+    pub stored_ram : space ≡ 4 → ys ≡ bytes_on (length (take (offset + count - offset) (drop offset r.ram))) s
+        → (in_space (memory_in l r) space offset count ≡ true)
+        × (memory_in l (record { unique = r.unique; register = r.register; ram = put_mid offset (offset + count - offset) r.ram ys })
+        ≡ stored (memory_in l r) space offset (bytes_on count s))
+    unfolding memory_in stored with_space space_of length_of
+    stored_ram k p = (extent r w ∙ h, rw (k, put l.ram r.ram w.ram f.ram (rw k at (within h)) p))
 
 -- spaces that keep their lengths still fit
 pub kept_fits : (u g m u' g' m' : List ℕ) → Fits (lengths_of (spaces u g m)) → length u' ≡ length u → length g' ≡ length g → length m' ≡ length m

@@ -1,5 +1,5 @@
 -- A case, and what each line of its text does to it.
-use Rattle.std.specs.Prelude.{ℕ, ◌+◌, Bool, true, false, cond, ◌&&◌, List, [], ◌++◌, leb, ltb, length, replicate}
+use Rattle.std.specs.Prelude.{ℕ, ◌+◌, Option, None, Some, Bool, cond, ◌&&◌, List, [], ◌++◌, leb, ltb, length, replicate}
 use Rattle.std.proofs.lemmas.List.Edits.{sets}
 use Rattle.operation.specs.declared.layout.Settings.{Settings}
 use Rattle.operation.specs.Spaces.{Lengths}
@@ -7,8 +7,9 @@ use Rattle.operation.specs.Layout.{operation_count}
 use Rattle.machine.specs.Memory.{Memory, spaces, space_of, with_space}
 use Rattle.case_reader.specs.Limits.{most_case_operations, most_case_bytes}
 use Rattle.case_frame.specs.Frames.{frame_of, bytes_on, words_on}
+use Rattle.case_frame.specs.declared.Target.{Target}
 use Rattle.case_frame.specs.declared.Frame.{Frame}
-use Rattle.case_frame.specs.declared.Frame.TheVariants.{Opening, Bytes, Operation, Bad}
+use Rattle.case_frame.specs.declared.Frame.TheVariants.{Opening, Bytes, Operation}
 
 -- What a labelled run is to be given.
 pub record Case : Type 0 where
@@ -40,11 +41,11 @@ opening settings lengths budget =
     record { settings = settings; budget = budget; memory = zeros lengths; labels = zeros lengths; list = [] }
 
 -- First 01.
-unfoldable pub opened : (number : ℕ) → Frame → Progress
-opened n (Opening settings lengths budget) = cond (lengths_fit lengths) (reading (opening settings lengths budget)) (bad_line n)
-opened n (Bytes labels space offset count) = bad_line n
-opened n Operation = bad_line n
-opened n Bad = bad_line n
+unfoldable pub opened : (number : ℕ) → Option Frame → Progress
+opened n (Some (Opening settings lengths budget)) = cond (lengths_fit lengths) (reading (opening settings lengths budget)) (bad_line n)
+opened n (Some (Bytes target space offset count)) = bad_line n
+opened n (Some Operation) = bad_line n
+opened n None = bad_line n
 
 -- ---- the other lines
 
@@ -69,21 +70,21 @@ unfoldable pub with_operation : Case → (words : List ℕ) → Case
 with_operation c words = record { settings = c.settings; budget = c.budget; memory = c.memory; labels = c.labels; list = c.list ++ words }
 
 -- Then any of 02, 03, 04.
-unfoldable pub line_added : (number : ℕ) → (line : List ℕ) → Frame → Case → Progress
-line_added n s (Opening settings lengths budget) c = bad_line n
-line_added n s (Bytes false space offset count) c =
+unfoldable pub line_added : (number : ℕ) → (line : List ℕ) → Option Frame → Case → Progress
+line_added n s (Some (Opening settings lengths budget)) c = bad_line n
+line_added n s (Some (Bytes Target.Memory space offset count)) c =
     cond (in_space c.memory space offset count)
     (reading (with_memory c (stored c.memory space offset (bytes_on count s))))
     (bad_line n)
-line_added n s (Bytes true space offset count) c =
+line_added n s (Some (Bytes Target.Labels space offset count)) c =
     cond (in_space c.labels space offset count)
     (reading (with_labels c (stored c.labels space offset (bytes_on count s))))
     (bad_line n)
-line_added n s Operation c =
+line_added n s (Some Operation) c =
     cond (ltb (operation_count c.list) most_case_operations)
     (reading (with_operation c (words_on s)))
     (bad_line n)
-line_added n s Bad c = bad_line n
+line_added n s None c = bad_line n
 
 -- One line, without its newline. After the first bad line nothing counts.
 unfoldable pub after_line : (number : ℕ) → (line : List ℕ) → Progress → Progress

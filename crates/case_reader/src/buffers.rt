@@ -1,25 +1,25 @@
-// Buffers for a reader, as it first gets them.
-ghost use Rattle.std.specs.Prelude.{◌≡◌, length};
-ghost use Rattle.case_reader.specs.Buffers.{Zeros};
-ghost use Rattle.case_reader.specs.Limits.{spaces_room, words_room, line_room};
+// The case that was read so far, in buffers of fixed length.
+ghost use Rattle.std.specs.Prelude.{◌≡◌, ◌%◌};
+ghost use Rattle.arrayvec.specs.ArrayVec.{array_vec_len};
+ghost use Rattle.operation.specs.Layout.{words_per_operation};
+ghost use Rattle.case_reader.specs.Limits.{Fits};
 
-use crate::limits::{LINE_ROOM, SPACES_ROOM, WORDS_ROOM};
+use crate::limits::{MOST_CASE_BYTES, WORDS_ROOM};
+use arrayvec::ArrayVec;
+use operation::layout::{Lengths, Settings, Spaces};
 
-pub fn line() -> [u8; LINE_ROOM]
-    ensures { length result ≡ line_room }
-{
-    [0; LINE_ROOM]
-}
+// For the bytes of a space, or for their labels.
+pub type Room = [u8; MOST_CASE_BYTES];
 
-// For memory, or for its labels.
-pub fn spaces() -> [u8; SPACES_ROOM]
-    ensures { (length result ≡ spaces_room) × Zeros result }
-{
-    [0; SPACES_ROOM]
-}
-
-pub fn words() -> [u64; WORDS_ROOM]
-    ensures { length result ≡ words_room }
-{
-    [0; WORDS_ROOM]
+// What the lines of a case say; a case that needs more room has no lines.
+#[derive(Drop)]
+pub struct Buffers {
+    pub settings: Settings,
+    pub lengths: Lengths,
+    pub budget: u32,
+    pub memory: Spaces<Room>,
+    pub labels: Spaces<Room>,
+    pub words: ArrayVec<u64, WORDS_ROOM>,
+    pub ghost fits: { Fits lengths },
+    pub ghost whole: { array_vec_len words % words_per_operation ≡ 0 },
 }

@@ -14,9 +14,6 @@ pub const LOG_WORDS: usize = 1024;
 // The first operation of a run.
 pub const START_INDEX: u64 = 0;
 
-// For the bytes of the three spaces, or for their labels.
-pub(crate) const SPACES_ROOM: usize = 3 * MOST_CASE_BYTES;
-
 // For the counts of secret bytes of a space: a word for each 64 bytes, and the total.
 pub const COUNTS_ROOM: usize = MOST_CASE_BYTES / 64 + 1;
 

@@ -1,163 +1,158 @@
 // What a line does to a case.
-ghost use Rattle.std.specs.Prelude.{◌≡◌, List, ℕ, ◌+◌, ◌*◌, ◌-◌, ◌≤◌, leb};
-ghost use Rattle.operation.specs.Rules.{length_of};
-ghost use Rattle.case_reader.specs.Case.{lengths_fit};
-ghost use Rattle.case_reader.specs.Limits.{most_case_bytes};
-ghost use Rattle.case_reader.specs.Buffers.{Sound, Fed};
+ghost use Rattle.std.specs.Prelude.{◌≡◌, ℕ, ◌≤◌, true, false, length, MatchResult, OnOk, OnErr};
+ghost use Rattle.operation.specs.Spaces.{Lengths};
+ghost use Rattle.case_frame.specs.Frames.{bytes_length, bytes_on, frame_of};
+ghost use Rattle.case_reader.specs.Limits.{Fits};
+ghost use Rattle.case_reader.specs.Case.{Progress, lengths_fit, opened, in_space, stored, line_added, after_line, zeros};
+ghost use Rattle.case_reader.specs.Buffers.{memory_in, case_in, progress_in};
 
-use crate::limits::{MOST_CASE_BYTES, MOST_CASE_OPERATIONS};
-use case_frame::{Frame, frame_of, store_bytes, store_words};
-use integer::boolean::both;
-use operation::layout::{Lengths, Settings, WORDS_PER_OPERATION};
+use crate::buffers::{Buffers, Room};
+use crate::limits::MOST_CASE_BYTES;
+use arrayvec::ArrayVec;
+use case_frame::{Frame, Target, frame_of, store_bytes, store_words};
+use operation::layout::{Lengths, REGISTER, Spaces, UNIQUE, WORDS_PER_OPERATION};
 use operation::rules::length_of;
 use word::size::within;
 
 // As a length of a space.
 const MOST_LENGTH: u64 = MOST_CASE_BYTES as u64;
 
-// What the lines of a case say beside its bytes, labels and words.
-#[derive(Clone, Copy)]
-pub struct Header {
-    pub settings: Settings,
-    pub lengths: Lengths,
-    pub budget: u32,
-    pub operations: usize,
-}
-
-#[derive(Clone, Copy)]
+// What has been read: no line yet, lines of a case, or the number of the first bad line.
+#[derive(Drop)]
 pub enum Stage {
     Nothing,
-    Reading(Header),
+    Reading(Buffers),
     BadLine(u64),
 }
 
-// One line, without its newline.
-pub(crate) fn feed(
-    number: u64,
-    stage: Stage,
-    s: &[u8],
-    memory: &mut [u8],
-    labels: &mut [u8],
-    words: &mut [u64],
-) -> Stage
-    requires { Sound stage memory.old labels.old words.old }
-    ensures { Fed number s.now stage memory.old labels.old words.old
-        result memory.new labels.new words.new }
-{
-    match stage {
-        Stage::Nothing => open(number, s),
-        Stage::Reading(header) => continue_with(number, header, s, memory, labels, words),
-        Stage::BadLine(first) => Stage::BadLine(first),
+// A line that no case has at this place.
+#[derive(Drop)]
+struct BadLine;
+
+impl Stage {
+    // One line, without its newline. After the first bad line nothing counts.
+    pub(crate) fn feed(&mut self, number: u64, s: &[u8])
+        ensures { progress_in self.new ≡ after_line number s.now (progress_in self.old) }
+    {
+        match self {
+            Stage::Nothing => {
+                *self = match Buffers::open(s) {
+                    Ok(buffers) => Stage::Reading(buffers),
+                    Err(BadLine) => Stage::BadLine(number),
+                };
+            }
+            Stage::Reading(buffers) => {
+                if let Err(BadLine) = buffers.add(s) {
+                    *self = Stage::BadLine(number);
+                }
+            }
+            Stage::BadLine(_) => {}
+        }
     }
 }
 
-// The first line.
-fn open(number: u64, s: &[u8]) -> Stage
-    ensures { (m ls ws : List ℕ) → Sound Stage.Nothing m ls ws → Fed number s.now Stage.Nothing m ls ws result m ls ws }
-{
-    match frame_of(s) {
-        Frame::Opening {
+impl Buffers {
+    // The first line.
+    fn open(s: &[u8]) -> Result<Buffers, BadLine>
+        ensures { (n : ℕ) → MatchResult result
+            (λ b. opened n (frame_of s.now) ≡ Progress.reading (case_in b))
+            (λ _. opened n (frame_of s.now) ≡ Progress.bad_line n) }
+    {
+        let Frame::Opening {
             settings,
             lengths,
             budget,
-        } => {
-            if lengths_fit(lengths) {
-                return Stage::Reading(Header {
-                    settings: settings,
-                    lengths: lengths,
-                    budget: budget,
-                    operations: 0,
-                });
-            }
-            Stage::BadLine(number)
+        } = frame_of(s).ok_or(BadLine)?
+        else {
+            return Err(BadLine);
+        };
+        if !lengths_fit(lengths) {
+            return Err(BadLine);
         }
-        Frame::Bytes {
-            labels: _,
-            space: _,
-            offset: _,
-            count: _,
-        } => Stage::BadLine(number),
-        Frame::Operation => Stage::BadLine(number),
-        Frame::Bad => Stage::BadLine(number),
+        Ok(Buffers {
+            settings,
+            lengths,
+            budget,
+            memory: no_bytes(),
+            labels: no_bytes(),
+            words: ArrayVec::new(),
+        })
+    }
+
+    // A line after the first.
+    fn add(&mut self, s: &[u8]) -> Result<(), BadLine>
+        ensures added { (n : ℕ) → MatchResult result
+            (λ _. line_added n s.now (frame_of s.now) (case_in self.old) ≡ Progress.reading (case_in self.new))
+            (λ _. line_added n s.now (frame_of s.now) (case_in self.old) ≡ Progress.bad_line n) }
+        ensures err { OnErr result (self.new ≡ self.old) }
+    {
+        match frame_of(s).ok_or(BadLine)? {
+            Frame::Opening { .. } => Err(BadLine),
+            Frame::Bytes {
+                target,
+                space,
+                offset,
+                count,
+            } => {
+                let lengths = self.lengths;
+                match target {
+                    Target::Memory => store(&mut self.memory, lengths, space, offset, count, s),
+                    Target::Labels => store(&mut self.labels, lengths, space, offset, count, s),
+                }
+            }
+            Frame::Operation => {
+                let mut words = [0; WORDS_PER_OPERATION];
+                store_words(s, &mut words);
+                self.words
+                    .try_extend_from_slice(&words)
+                    .map_err(|_| BadLine)
+            }
+        }
     }
 }
 
+#[tactic(auto, using(std::proofs::lemmas::Bool::Decides::nat_tests), unfolding(crate::specs::Case::lengths_fit))]
 fn lengths_fit(lengths: Lengths) -> bool
     ensures { result ≡ lengths_fit lengths }
 {
-    let two = both(
-        lengths.unique <= MOST_LENGTH,
-        lengths.register <= MOST_LENGTH,
-    );
-    both(two, lengths.ram <= MOST_LENGTH)
+    lengths.unique <= MOST_LENGTH && lengths.register <= MOST_LENGTH && lengths.ram <= MOST_LENGTH
 }
 
-// A line after the first.
-fn continue_with(
-    number: u64,
-    header: Header,
-    s: &[u8],
-    memory: &mut [u8],
-    labels: &mut [u8],
-    words: &mut [u64],
-) -> Stage
-    requires { Sound (Stage.Reading header) memory.old labels.old words.old }
-    ensures { Fed number s.now (Stage.Reading header) memory.old labels.old words.old
-        result memory.new labels.new words.new }
+// Memory starts as zeros and public.
+fn no_bytes() -> Spaces<Room>
+    ensures { (l : Lengths) → Fits l → memory_in l result ≡ zeros l }
 {
-    match frame_of(s) {
-        Frame::Opening {
-            settings: _,
-            lengths: _,
-            budget: _,
-        } => Stage::BadLine(number),
-        Frame::Bytes {
-            labels: of_labels,
-            space,
-            offset,
-            count,
-        } => {
-            let lengths = header.lengths;
-            if !in_space(lengths, space, offset, count) {
-                return Stage::BadLine(number);
-            }
-            let place = place_of(space, offset);
-            if of_labels {
-                store_bytes(s, count, labels, place);
-                return Stage::Reading(header);
-            }
-            store_bytes(s, count, memory, place);
-            Stage::Reading(header)
-        }
-        Frame::Operation => {
-            if header.operations == MOST_CASE_OPERATIONS {
-                return Stage::BadLine(number);
-            }
-            store_words(s, words, WORDS_PER_OPERATION * header.operations);
-            let settings = header.settings;
-            let lengths = header.lengths;
-            Stage::Reading(Header {
-                settings: settings,
-                lengths: lengths,
-                budget: header.budget,
-                operations: header.operations + 1,
-            })
-        }
-        Frame::Bad => Stage::BadLine(number),
+    Spaces {
+        unique: [0; MOST_CASE_BYTES],
+        register: [0; MOST_CASE_BYTES],
+        ram: [0; MOST_CASE_BYTES],
     }
 }
 
-// Whether all bytes lie in the space.
-fn in_space(lengths: Lengths, space: u64, offset: u64, count: usize) -> bool
-    ensures { result ≡ leb (offset + count) (length_of lengths space) }
+// Stores the bytes or labels of a line, if all lie in the space.
+fn store(
+    rooms: &mut Spaces<Room>,
+    lengths: Lengths,
+    space: u64,
+    offset: u64,
+    count: usize,
+    s: &[u8],
+) -> Result<(), BadLine>
+    requires fits { Fits lengths }
+    requires on_line { (1 ≤ count) × (bytes_length count ≤ length s.now) }
+    ensures ok { OnOk result ((in_space (memory_in lengths rooms.old) space offset count ≡ true)
+        × (memory_in lengths rooms.new ≡ stored (memory_in lengths rooms.old) space offset (bytes_on count s.now))) }
+    ensures err { OnErr result ((in_space (memory_in lengths rooms.old) space offset count ≡ false) × (rooms.new ≡ rooms.old)) }
 {
-    within(offset, count as u64, length_of(lengths, space))
-}
-
-// Where an offset of a space lies in the buffer of three spaces.
-fn place_of(space: u64, offset: u64) -> usize
-    requires { (2 ≤ space) × (space ≤ 4) × (offset ≤ most_case_bytes) }
-    ensures { result ≡ (space - 2) * most_case_bytes + offset }
-{
-    ((space - 2) * MOST_LENGTH + offset) as usize
+    if !within(offset, count as u64, length_of(lengths, space)) {
+        return Err(BadLine);
+    }
+    let at = offset as usize;
+    let end = at + count;
+    match space {
+        UNIQUE => store_bytes(s, &mut rooms.unique[at..end]),
+        REGISTER => store_bytes(s, &mut rooms.register[at..end]),
+        _ => store_bytes(s, &mut rooms.ram[at..end]),
+    }
+    Ok(())
 }

@@ -1,96 +1,63 @@
 // A text that comes in parts.
 ghost use Rattle.std.specs.Prelude.{◌≡◌, [], ◌∷◌};
+ghost use Rattle.case_reader.specs.Stream.{HasRead, Advanced};
 ghost use Rattle.case_reader.specs.Lines.{next_number};
-ghost use Rattle.case_reader.specs.Stream.{ReaderFits, Started, Advanced};
 
 use crate::limits::LINE_ROOM;
-use crate::line::{Stage, feed};
+use crate::line::Stage;
+use arrayvec::ArrayVec;
 
-// How much of the unfinished line stands in the line buffer, how many lines were read, and what they said.
-#[derive(Clone, Copy)]
+// The unfinished line, how many lines were read, and what they said.
+#[derive(Drop)]
 pub struct Reader {
-    pub have: usize,
+    pub line: ArrayVec<u8, LINE_ROOM>,
     pub number: u64,
     pub stage: Stage,
 }
 
 // Ends a line.
-pub const NEWLINE: u8 = 10;
+pub const NEWLINE: u8 = b'\n';
 
-// A reader that has read nothing.
-pub fn start() -> Reader
-    ensures { Started result }
-{
-    Reader {
-        have: 0,
-        number: 0,
-        stage: Stage::Nothing,
+impl Reader {
+    // A reader that has read nothing.
+    pub fn new() -> Reader
+        ensures { HasRead [] result }
+    {
+        Reader {
+            line: ArrayVec::new(),
+            number: 0,
+            stage: Stage::Nothing,
+        }
     }
-}
 
-// A part of the text, of any length.
-pub fn read(
-    r: Reader,
-    part: &[u8],
-    line: &mut [u8],
-    memory: &mut [u8],
-    labels: &mut [u8],
-    words: &mut [u64],
-) -> Reader
-    requires { ReaderFits r line.old memory.old labels.old words.old }
-    ensures { Advanced part.now r line.old memory.old labels.old words.old
-        result line.new memory.new labels.new words.new }
-{
-    let mut q = r;
-    let mut i = 0;
-    while i < part.len() {
-        q = push(q, part[i], line, memory, labels, words);
-        i += 1;
+    // A part of the text, of any length.
+    pub fn read(&mut self, part: &[u8])
+        ensures { Advanced part.now self.old self.new }
+    {
+        for b in part {
+            self.push(*b);
+        }
     }
-    q
-}
 
-// One byte of the text.
-fn push(
-    r: Reader,
-    b: u8,
-    line: &mut [u8],
-    memory: &mut [u8],
-    labels: &mut [u8],
-    words: &mut [u64],
-) -> Reader
-    requires { ReaderFits r line.old memory.old labels.old words.old }
-    ensures { Advanced (b ∷ []) r line.old memory.old labels.old words.old
-        result line.new memory.new labels.new words.new }
-{
-    let have = r.have;
-    let stage = r.stage;
-    if b == NEWLINE {
-        let number = next_number(r.number);
-        let fed = feed(number, stage, &line[..have], memory, labels, words);
-        return Reader {
-            have: 0,
-            number: number,
-            stage: fed,
-        };
+    // One byte of the text.
+    fn push(&mut self, b: u8)
+        ensures { Advanced (b ∷ []) self.old self.new }
+    {
+        if b == NEWLINE {
+            self.number = next_number(self.number);
+            self.stage.feed(self.number, self.line.as_slice());
+            self.line.clear();
+        } else {
+            // Of a line that fills its room, which no frame does, the rest counts no more.
+            let _ = self.line.try_push(b);
+        }
     }
-    if have < LINE_ROOM {
-        line[have] = b;
-        return Reader {
-            have: have + 1,
-            number: r.number,
-            stage: stage,
-        };
-    }
-    r
 }
 
 // The number of the next line; the largest number stays.
+#[tactic(auto, using(std::proofs::lemmas::Bool::Decides::nat_tests), unfolding(crate::specs::Lines::next_number))]
 pub fn next_number(n: u64) -> u64
     ensures { result ≡ next_number n }
 {
-    if n < u64::MAX {
-        return n + 1;
-    }
-    n
+    n.saturating_add(1)
 }

@@ -10,19 +10,31 @@ use lib.ListN.{length, replicate, length-replicate}
 use Rattle.secret_counts.specs.Recount.{blocks, count_words}
 use Rattle.operation.specs.declared.layout.Settings.{Settings}
 use Rattle.operation.specs.declared.report.Report.{Report}
+use Rattle.std.specs.Borrow.{MutBor}
+use Rattle.operation.specs.declared.layout.Spaces.{Spaces}
 use Rattle.machine.specs.Memory.{Memory, spaces, lengths_of}
+use Rattle.machine.specs.Lent.{lent, SameBuffers}
 use Rattle.machine.specs.Calls.{Outcome, labelled_outcome, labelled_run}
 use Rattle.machine.specs.Counts.{counts_fit, CountedOutcome, counted_outcome, counted_run}
 use Rattle.machine.proofs.Limits.{limits}
 use Rattle.machine.proofs.Recounts.{counts_of_labelled_runs}
 use Rattle.case_printing.specs.Appended.{Appended}
 use Rattle.case_printing.specs.Outcome.{outcome_text}
-use Rattle.case_reader.specs.Limits.{most_case_bytes, log_words, start_index, counts_room}
-use Rattle.case_reader.specs.Buffers.{Fits}
+use Rattle.case_reader.specs.Limits.{most_case_bytes, log_words, start_index, counts_room, Fits}
 
 -- counts of zeros that have room for the longest space, of each space
 abbrev pub no_counts : Memory
 no_counts = spaces (replicate counts_room 0) (replicate counts_room 0) (replicate counts_room 0)
+
+-- a buffer that is the same still is as long
+pub still_fits : {before after : Spaces (MutBor (List ℕ))} → SameBuffers before after → Fits (lengths_of (lent before)) → Fits (lengths_of (lent after))
+unfolding lengths_of
+still_fits same f =
+    record {
+      unique = omega (arith, same.unique.size, f.unique);
+      register = omega (arith, same.register.size, f.register);
+      ram = omega (arith, same.ram.size, f.ram);
+    }
 
 enough : (n : ℕ) → n ≤ most_case_bytes → leb (count_words n) (length (replicate {A = ℕ} counts_room 0)) ≡ true
 unfolding count_words blocks
@@ -52,5 +64,5 @@ logged_in settings list budget labels m {report} {m'} {labels'} {log'} e =
     (omega (arith, few, room, length-replicate {A = ℕ} log_words 0), omega (arith, room))
 
 -- what is printed of an outcome is printed of its equal
-pub printed_as : {o o' : Outcome} {before after : List ℕ} {n : ℕ} → o ≡ o' → Appended 0 before (outcome_text o) n after → Appended 0 before (outcome_text o') n after
-printed_as {o} {o'} {before} {after} {n} e p = subst (λ (x : Outcome). Appended 0 before (outcome_text x) n after) e p
+pub printed_as : {o o' : Outcome} {before after : List ℕ} → o ≡ o' → Appended before (outcome_text o) after → Appended before (outcome_text o') after
+printed_as {o} {o'} {before} {after} e p = subst (λ (x : Outcome). Appended before (outcome_text x) after) e p

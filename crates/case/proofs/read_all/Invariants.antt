@@ -3,4 +3,4 @@ use Rattle.case.proofs.read_all.Given as goal
 
 -- The reader holds the parts read so far.
 abbrev pub invariant-loop : goal.invariant-loop
-invariant-loop g l = ReadOf (g.R.Read.remaining l.initial.from) (g.R.Read.remaining l.from) l.reader l.line l.memory l.labels l.words
+invariant-loop g l = ReadOf (g.R.Read.remaining l.initial.from) (g.R.Read.remaining l.from) l.reader

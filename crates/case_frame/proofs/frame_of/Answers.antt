@@ -1,18 +1,13 @@
-use mathlib.Core.Path.{refl, sym, ◌∙◌}
+use Rattle.std.proofs.Common.{arith}
+use Rattle.std.proofs.lemmas.Bool.Decides.{nat_tests}
 use Rattle.case_frame.specs.Frames.{frame_of}
 use Rattle.case_frame.proofs.Numbered.{numbered}
 use Rattle.case_frame.proofs.frame_of.Goals as goal
 
-pub returns-then-both : goal.returns-then-both
+pub returns-then-s-lt-BYTE_DIGITS-clause-numbers : goal.returns-then-s-lt-BYTE_DIGITS-clause-numbers
 unfolding frame_of
-returns-then-both c = let h = (numbered _ _
-    (rw (
-      sym c.all_digits-plain.ensures,
-      sym c.both.ensures ∙ c.if-both.true,
-      c.frame_by.ensures,
-      c.number-kind.ensures,
-    ) refl)) in record { answer = h.0; numbers = h.1 }
+returns-then-s-lt-BYTE_DIGITS-clause-numbers c = numbered c.args.s.now _ (grind (arith, nat_tests))
 
-pub returns : goal.returns
+pub returns-clause-numbers : goal.returns-clause-numbers
 unfolding frame_of
-returns c = let h = (numbered _ _ (rw (sym c.all_digits-plain.ensures, sym c.both.ensures ∙ c.if-both.false) refl)) in record { answer = h.0; numbers = h.1 }
+returns-clause-numbers c = numbered c.args.s.now _ (grind (arith, nat_tests))

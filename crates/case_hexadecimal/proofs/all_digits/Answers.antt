@@ -1,18 +1,11 @@
-use Rattle.case_hexadecimal.proofs.Laws.{digits_end, digits_stop, digits_more}
-use native.Mathlib.Omega.{arith}
-use mathlib.Core.Path.{◌∙◌, sym}
-use borrow.Author.Rules.{rules}
+use Rattle.std.proofs.Common.{ltb, ◌∙◌, rules, tests}
+use Rattle.std.proofs.lemmas.Iterator.{YieldsList-from_slice}
+use Rattle.std.proofs.lemmas.Iterator.Search.{all_from_yields_List}
+use Rattle.case_hexadecimal.specs.Digits.{digit_of}
+use Rattle.case_hexadecimal.proofs.Laws.{digit_known, all_pass}
 use Rattle.case_hexadecimal.proofs.all_digits.Goals as goal
 
-pub returns-then-digit-ge16 : goal.returns-then-digit-ge16
-returns-then-digit-ge16 c =
-    let l = c.loop-i in
-    digits_stop _ l.i (search rules) (omega (arith, c.if-digit-ge16.true, c.digit.ensures)) ∙ sym l.invariant.1
-
-pub loop-i-preserved : goal.loop-i-preserved
-loop-i-preserved c =
-    let l = c.loop-i in
-    (search rules, l.invariant.1 ∙ digits_more _ l.i (search rules) (omega (arith, c.if-digit-ge16.false, c.digit.ensures)))
-
 pub returns : goal.returns
-returns c = digits_end _ c.loop-i.i (search rules) ∙ sym c.loop-i.invariant.1
+returns c =
+    let s = c.args.s.now in
+    all_from_yields_List (λ n. ltb (digit_of n) 16) _ _ _ c.all.ensures.ran (YieldsList-from_slice s cc) (λ x b q k. search (rules, tests, digit_known)) ∙ all_pass s

@@ -1,8 +1,8 @@
--- `case_output::put_bad` meets its contract.
+use Rattle.std.proofs.Common.{rules}
+use Rattle.case_printing.specs.Outcome.{report_line}
 use Rattle.case_output.specs.Output.{bad_text}
-use borrow.Author.Rules.{rules}
 use Rattle.case_output.proofs.put_bad.Goals as goal
 
 pub returns : goal.returns
-unfolding bad_text
-returns c = search rules
+unfolding bad_text report_line
+returns g c = search rules

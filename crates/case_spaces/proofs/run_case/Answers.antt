@@ -1,11 +1,12 @@
--- `case_spaces::run_case` meets its contract.
-use Rattle.case_spaces.proofs.Spaces.{front_lengths}
+use Rattle.std.proofs.Common.{rules}
+use Rattle.case_run.specs.Run.{outcome}
+use Rattle.case_reader.specs.Buffers.{case_in}
+use Rattle.case_run.proofs.Running.{printed_as}
 use Rattle.case_spaces.proofs.run_case.Goals as goal
 
-pub run_in-requires-clause-ram_value : goal.run_in-requires-clause-ram_value
-run_in-requires-clause-ram_value c =
-    front_lengths _ c.requires.sound.stage_fits.lengths _ _ _ c.zeros-unique.ensures c.zeros-register.ensures c.zeros-ram.ensures
+pub print_run-requires : goal.print_run-requires
+print_run-requires g c = (search rules, (c.used.ensures.fits, (c.used-2.ensures.fits, c.requires)))
 
-pub run_in-requires-clause-ram_labels_value : goal.run_in-requires-clause-ram_labels_value
-run_in-requires-clause-ram_labels_value c =
-    front_lengths _ c.requires.sound.stage_fits.lengths _ _ _ c.zeros-unique_labels.ensures c.zeros-register_labels.ensures c.zeros-ram_labels.ensures
+pub returns : goal.returns
+unfolding outcome case_in
+returns g c = printed_as (rw (c.used.ensures.held, c.used-2.ensures.held, c.as_slice.ensures.value)) c.print_run.ensures

@@ -1,28 +1,29 @@
-use mathlib.Core.Path.{◌≡◌}
-use native.Mathlib.Omega.{arith}
-use borrow.Author.Rules.{rules}
-use lib.ListN.{length, get_or}
-use Rattle.case_printing.specs.Text.{word_line_length, log_text}
-use Rattle.case_printing.proofs.Appending.{concatenated_none, concatenated_then}
-use Rattle.case_printing.proofs.Lengths.{length_word, past_concatenated}
-use Rattle.case_printing.proofs.text.put_log.Invariants.{line}
+use Rattle.std.proofs.Common.{◌≡◌, length, get_or, arith, rules}
+use Rattle.case_printing.specs.Text.{word_line, word_line_length, log_text}
+use Rattle.case_printing.proofs.Appending.{grown, concatenated_none, concatenated_then}
+use Rattle.case_printing.proofs.Lengths.{length_word, length_log, concatenated_most}
 use Rattle.case_printing.proofs.text.put_log.Goals as goal
 
-pub loop-i-init : goal.loop-i-init
-loop-i-init c = (omega arith, concatenated_none _ _ _ (omega arith))
+pub loop-word-init : goal.loop-word-init
+loop-word-init g c = concatenated_none _ _
 
-pub put_word-p-requires : goal.put_word-p-requires
-put_word-p-requires c =
-    let l = c.loop-i in
+pub put_word-requires : goal.put_word-requires
+put_word-requires g c =
     let words = c.args.words.now in
-    let so_far = past_concatenated word_line_length l.i (line words) (λ k. omega (arith, length_word (get_or words k 0))) l.invariant.1 in
-    omega (arith, so_far)
+    let l = c.loop-word in
+    let so_far = concatenated_most word_line_length l.word-index (λ i. word_line (get_or words i 0)) (λ i. omega (arith, length_word (get_or words i 0))) in
+    (search rules, omega (arith, grown l.invariant, so_far))
 
-pub loop-i-preserved : goal.loop-i-preserved
-loop-i-preserved c = search (rules, concatenated_then)
+pub loop-word-preserved : goal.loop-word-preserved
+loop-word-preserved g c = concatenated_then _ _ c.loop-word.invariant c.put_word.ensures
 
 pub returns : goal.returns
 unfolding log_text
-returns c =
-    let e : c.loop-i.i ≡ length c.args.words.now = search rules in
-    rw (← e) c.loop-i.invariant.1
+returns g c =
+    let words = c.args.words.now in
+    let e : c.loop-word.word-index ≡ length words = omega arith in
+    let put = rw e at c.loop-word.invariant in
+    record {
+      appended = put;
+      upper_bound = omega (arith, grown put, length_log words);
+    }

@@ -1,8 +1,8 @@
-use native.Mathlib.Omega.{arith}
+-- `case_printing::text::put_word` meets its contract.
 use Rattle.case_printing.specs.Text.{word_line}
 use Rattle.case_printing.proofs.Appending.{then_one}
 use Rattle.case_printing.proofs.text.put_word.Goals as goal
 
 pub returns : goal.returns
 unfolding word_line
-returns c = then_one c.put_hex-p.ensures.appended _ (omega arith)
+returns g c = then_one c.put_hex.ensures.appended _ c.push.ensures.items
