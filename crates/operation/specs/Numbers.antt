@@ -1,11 +1,24 @@
--- What a report is made of, and the numbers of refusals.
+-- What a report is made of, and the numbers of endings and refusals.
 use Rattle.std.specs.Prelude.{ℕ, Result, Ok, Err, ⊤}
+use Rattle.operation.specs.declared.report.Ending.{Ending}
+use Rattle.operation.specs.declared.report.Ending.TheVariants.{End, Exit, Budget, Leak, Bounds, Zero as ByZero, Log, LeakAhead}
 use Rattle.operation.specs.declared.report.Refusal.{Refusal}
 use Rattle.operation.specs.declared.report.Refusal.TheVariants.{Setting, Length, Label, Head, Shape, Place, Range, Size, Target, Start, Zero}
 
 -- Numbers of a report.
 abbrev pub report_numbers : ℕ
 report_numbers = 5
+
+-- The number of an ending.
+abbrev pub ending_number : Ending → ℕ
+ending_number End = 0
+ending_number Exit = 1
+ending_number Budget = 2
+ending_number Leak = 31
+ending_number Bounds = 32
+ending_number ByZero = 33
+ending_number Log = 34
+ending_number LeakAhead = 35
 
 -- The number of a refusal.
 abbrev pub number_of : Refusal → ℕ

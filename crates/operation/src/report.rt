@@ -1,6 +1,6 @@
 // What a call answers: the papers' report, and what its ending can be.
 ghost use Rattle.std.specs.Prelude.{◌≡◌, cond, Ok, Err, [], ◌∷◌};
-ghost use Rattle.operation.specs.Numbers.{number_of};
+ghost use Rattle.operation.specs.Numbers.{ending_number, number_of};
 
 // Why a run ended.
 #[derive(Clone, Copy, PartialEq, Eq)]
@@ -13,6 +13,14 @@ pub enum Ending {
     Zero = 33,
     Log = 34,
     LeakAhead = 35,
+}
+
+impl Ending {
+    pub fn number(self) -> u64
+        ensures { result ≡ ending_number self }
+    {
+        self as u64
+    }
 }
 
 // Why nothing ran: the settings or the lent buffers, the rules of an operation from Head to Target, or the start. A call of the C

@@ -20,7 +20,7 @@ ghost use Rattle.run_journal.specs.Journal.{target_before, entry_of, entry_words
 
 use arithmetic::opcodes::STORE;
 use operation::layout::{
-    Settings, Spaces, Varnode, absent, described_by, opcode_at, operation_count, varnode_at,
+    INPUT0, INPUT1, INPUT2, OUTPUT, Settings, Spaces, Varnode, absent, described_by, opcode_at, operation_count, varnode_at,
 };
 use operation::rules::length_of;
 use run_memory::labels::mark;
@@ -94,7 +94,7 @@ fn target_before(settings: Settings, list: &[u64], memory: Spaces<&[u8]>, i: usi
     if opcode_at(list, i) == STORE {
         return stored_at(settings, list, memory, i);
     }
-    varnode_at(list, i, 0)
+    varnode_at(list, i, OUTPUT)
 }
 
 // The bytes that STORE stores to; an absent varnode where they are out of bounds.
@@ -107,9 +107,9 @@ fn stored_at(settings: Settings, list: &[u64], memory: Spaces<&[u8]>, i: usize) 
         (destination_bytes (operation_at list.now i)
         (operand1 (program_of settings list.now) (held memory.entry) (operation_at list.now i))) }
 {
-    let input0 = varnode_at(list, i, 1);
-    let input1 = varnode_at(list, i, 2);
-    let input2 = varnode_at(list, i, 3);
+    let input0 = varnode_at(list, i, INPUT0);
+    let input1 = varnode_at(list, i, INPUT1);
+    let input2 = varnode_at(list, i, INPUT2);
     let pointer = value_at(settings.order == 1, memory, input1);
     let length = length_of(lengths_of(memory), input0.offset);
     let offset = offset_in(settings, input0.offset, length, pointer);
@@ -118,7 +118,7 @@ fn stored_at(settings: Settings, list: &[u64], memory: Spaces<&[u8]>, i: usize) 
     }
     Varnode {
         space: input0.offset,
-        offset: offset,
+        offset,
         size: input2.size,
     }
 }

@@ -20,9 +20,8 @@ ghost use Rattle.run_plan.specs.Valid.{Valid};
 ghost use Rattle.run_execution.specs.Loops.{position};
 ghost use Rattle.run_labelled.specs.Turns.{Fitting, Countable, turn_of, completes, offset_logged, Markable};
 
-use integer::boolean::both;
 use operation::layout::{Settings, Spaces, opcode_at, operation_count};
-use operation::report::{Report, run_report};
+use operation::report::{Ending, Report, run_report};
 use operation::rules::accesses;
 use run_execution::{INDEX_WEIGHT, run_from};
 use run_memory::labels::mark;
@@ -120,17 +119,18 @@ fn run_turns(
         i = done.index as usize;
         k = done.logged as usize;
         executed = executed + done.executed;
-        if !both(done.ending == 2, executed < budget) {
+        if !((done.ending == Ending::Budget as u64) & (executed < budget)) {
             return run_report(done.ending, i, executed, k, done.value);
         }
     }
 }
 
 // The budget of a turn, one operation or all of them. It is the same for each: a run goes on only with budget left.
+#[tactic(auto, unfolding(crate::specs::Turns::turn_of))]
 pub fn turn(labelled: bool, budget: u64) -> u64
     ensures { result ≡ turn_of labelled budget }
 {
-    if both(labelled, 0 < budget) {
+    if labelled & (0 < budget) {
         1
     } else {
         budget
@@ -169,7 +169,7 @@ fn step_at(
         most,
     );
     if leak {
-        return run_report(31, i, 0, k, 0);
+        return run_report(Ending::Leak as u64, i, 0, k, 0);
     }
     let done = run_from(settings, list, memory, log, i, k, most);
     let completed = completes(labelled, done.executed, done.ending);
@@ -198,7 +198,7 @@ fn leaks_within(
     ensures { result ≡ labelled && not (eqb most 0) && ltb i (operation_count list.now)
         && leaks (lent labels.now) (operation_at list.now i) }
 {
-    let asked = both(both(labelled, most != 0), i < operation_count(list));
+    let asked = labelled & (most != 0) & (i < operation_count(list));
     if asked {
         return leaks_at(list, reading(labels), i);
     }
@@ -206,10 +206,11 @@ fn leaks_within(
 }
 
 // A labelled operation was executed, and the run did not exit by it.
+#[tactic(auto, unfolding(crate::specs::Turns::completes))]
 fn completes(labelled: bool, executed: u64, ending: u64) -> bool
     ensures { result ≡ completes labelled executed ending }
 {
-    both(labelled, both(executed != 0, ending != 1))
+    labelled & ((executed != 0) & (ending != Ending::Exit as u64))
 }
 
 // The labels after operation i, if it was completed. Its log word, at k, holds the byte offset of LOAD and STORE.

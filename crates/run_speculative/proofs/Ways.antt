@@ -1,24 +1,21 @@
 -- The tests and the answer of one turn, as the code finds them.
-use Rattle.std.proofs.Common.{◌≡◌, ℕ, ◌+◌, ◌%◌, ◌^◌, Bool, true, false, cond, not, ◌&&◌, ◌||◌, eqb, List, refl, ◌∙◌, add-one, eq-eqb, ne_eqb}
+use Rattle.std.proofs.Common.{◌≡◌, ℕ, ◌+◌, ◌%◌, ◌^◌, ◌<◌, Bool, true, false, cond, not, ◌&&◌, ◌||◌, eqb, List, refl, ◌∙◌, add-one, eq-eqb, ne_eqb, arith}
 use Rattle.integer.proofs.Booleans.{neither}
 use Rattle.operation.specs.declared.report.Report.{Report}
 use Rattle.operation.specs.declared.layout.Varnode.{Varnode}
 use Rattle.operation.specs.Layout.{opcode_at, varnode_at}
 use Rattle.run_speculative.specs.Ways.{opens_window, other_index, ending_ahead, answer_after}
 
-module _ (i : ℕ) (done w : Report) (log-ends ahead : ℕ) (el : log-ends ≡ cond (eqb w.ending 34) 34 0) (ea : ahead ≡ cond (eqb w.ending 31) 35 log-ends) (r : Report) where
-  ahead_is : ending_ahead w.ending ≡ ahead
-  unfolding ending_ahead
-  ahead_is = rw (ea, el) refl
-
-  pub answer_ended : (ahead ≡ 0 → ⊥) → r ≡ record { ending = ahead; index = i; executed = 0; logged = w.logged; value = 0 } → r ≡ answer_after i done w
-  unfolding answer_after
-  answer_ended n e = e ∙ rw (ahead_is, ne_eqb ahead 0 n) refl
-
-  pub answer_goes_on : ahead ≡ 0 → r ≡ record { ending = done.ending; index = done.index; executed = done.executed; logged = w.logged; value = done.value }
+module _ (i : ℕ) (done w r : Report) where
+  pub answer_ended : (ahead : ℕ) → ending_ahead w.ending ≡ ahead → 0 < ahead → r ≡ record { ending = ahead; index = i; executed = 0; logged = w.logged; value = 0 }
       → r ≡ answer_after i done w
   unfolding answer_after
-  answer_goes_on z e = e ∙ rw (ahead_is, eq-eqb ahead 0 z) refl
+  answer_ended ahead a n e = e ∙ rw (a, ne_eqb ahead 0 (λ z. omega arith)) refl
+
+  pub answer_goes_on : ending_ahead w.ending ≡ 0
+      → record { ending = done.ending; index = done.index; executed = done.executed; logged = w.logged; value = done.value } ≡ answer_after i done w
+  unfolding answer_after
+  answer_goes_on z = rw (eq-eqb (ending_ahead w.ending) 0 z) refl
 
 pub some_executed : (window executed : ℕ) (none : Bool) → none ≡ eqb window 0 || eqb executed 0 → none ≡ false → (eqb window 0 ≡ false) × (eqb executed 0 ≡ false)
 some_executed window executed none en f = neither (eqb window 0) (eqb executed 0) (rw (← en) f)

@@ -1,7 +1,8 @@
 // The speculative run: each CBRANCH tries the way not taken.
 #![tactic(auto)]
 
-ghost use Rattle.std.specs.Prelude.{◌≡◌, ◌+◌, ◌*◌, ◌<◌, ◌≤◌, true, false, length, ◌==◌};
+ghost use Rattle.std.specs.Prelude.{◌≡◌, ◌+◌, ◌*◌, ◌<◌, ◌≤◌, true, false, length, ◌==◌, MatchOption};
+ghost use Rattle.operation.specs.Numbers.{ending_number};
 ghost use Rattle.secret_counts.specs.Moved.{low_bit};
 ghost use Rattle.operation.specs.Layout.{words_per_operation, operation_count};
 ghost use Rattle.validation.specs.Verdict.{most_operations, settings_in_range};
@@ -15,16 +16,15 @@ ghost use Rattle.speculation.specs.Speculation.{journal_words, speculate};
 ghost use Rattle.run_plan.specs.Valid.{Valid};
 ghost use Rattle.run_execution.specs.Loops.{position};
 ghost use Rattle.run_window.specs.Windows.{Spared};
-ghost use Rattle.run_speculative.specs.Ways.{opens_window, other_index, answer_after};
+ghost use Rattle.run_speculative.specs.Ways.{opens_window, other_index, ending_ahead, answer_after};
 
 use arithmetic::opcodes::CBRANCH;
-use integer::boolean::{both, either, pick};
-use operation::layout::{CONSTANT, Settings, Spaces, opcode_at, varnode_at};
-use operation::report::{Report, run_report};
+use integer::boolean::pick;
+use operation::layout::{CONSTANT, INPUT0, Settings, Spaces, opcode_at, varnode_at};
+use operation::report::{Ending, Report, run_report};
 use run_labelled::{run_any, turn};
 use run_memory::space::reading;
 use run_window::open_window;
-use std::num::wrapping_add_u64;
 
 // A run from operation `start`. Without a window it is one turn, as long as the budget; else a turn is one operation with its window.
 pub fn speculate_from(
@@ -70,7 +70,7 @@ pub fn speculate_from(
         i = done.index as usize;
         k = done.logged as usize;
         executed = executed + done.executed;
-        if !both(done.ending == 2, executed < budget) {
+        if !((done.ending == Ending::Budget as u64) & (executed < budget)) {
             return run_report(done.ending, i, executed, k, done.value);
         }
     }
@@ -138,12 +138,12 @@ fn opens_window(list: &[u64], i: usize, window: u64, done: Report) -> bool
     requires { (window == 0) ≡ false → (done.executed == 0) ≡ false → (words_per_operation * i + words_per_operation ≤ length list.now) × (i < most_operations) }
     ensures { result ≡ opens_window list.now i window done }
 {
-    if either(window == 0, done.executed == 0) {
+    if (window == 0) | (done.executed == 0) {
         return false;
     }
-    let destination = varnode_at(list, i, 1);
-    let leaves = both(done.index == i as u64 + 1, destination.space != CONSTANT);
-    both(opcode_at(list, i) == CBRANCH, !leaves)
+    let destination = varnode_at(list, i, INPUT0);
+    let leaves = (done.index == i as u64 + 1) & (destination.space != CONSTANT);
+    (opcode_at(list, i) == CBRANCH) & !leaves
 }
 
 // The way that a CBRANCH does not take, by the index where it goes on or, to exit, stays.
@@ -151,8 +151,8 @@ fn other_index(list: &[u64], i: usize, next: u64) -> usize
     requires { (words_per_operation * i + words_per_operation ≤ length list.now) × (i < most_operations) }
     ensures { result ≡ other_index list.now i next }
 {
-    let destination = varnode_at(list, i, 1);
-    let target = wrapping_add_u64(i as u64, destination.offset);
+    let destination = varnode_at(list, i, INPUT0);
+    let target = (i as u64).wrapping_add(destination.offset);
     let following = i as u64 + 1;
     pick(next == following, target, following) as usize
 }
@@ -161,16 +161,26 @@ fn other_index(list: &[u64], i: usize, next: u64) -> usize
 fn answer_after(i: usize, done: Report, went: Report) -> Report
     ensures { result ≡ answer_after i done went }
 {
-    let ahead = pick(went.ending == 31, 35, pick(went.ending == 34, 34, 0));
     let logged = went.logged as usize;
-    if ahead != 0 {
-        return run_report(ahead, i, 0, logged, 0);
+    if let Some(ahead) = ending_ahead(went.ending) {
+        return run_report(ahead.number(), i, 0, logged, 0);
     }
-    run_report(
-        done.ending,
-        done.index as usize,
-        done.executed,
-        logged,
-        done.value,
-    )
+    Report {
+        logged: went.logged,
+        ..done
+    }
+}
+
+// How the run ends by a window that ended so; None where the window closed.
+#[tactic(auto, unfolding(crate::specs::Ways::ending_ahead))]
+fn ending_ahead(ending: u64) -> Option<Ending>
+    ensures { MatchOption result (ending_ahead ending ≡ 0) (λ ahead. (ending_ahead ending ≡ ending_number ahead) × (0 < ending_number ahead)) }
+{
+    const LEAK: u64 = Ending::Leak as u64;
+    const LOG: u64 = Ending::Log as u64;
+    match ending {
+        LEAK => Some(Ending::LeakAhead),
+        LOG => Some(Ending::Log),
+        _ => None,
+    }
 }

@@ -17,9 +17,8 @@ use arithmetic::opcodes::{
     CBRANCH, FIRST_INTEGER, INT_SEXT, INT_ZEXT, LOAD, PIECE, STORE, SUBPIECE,
 };
 use arithmetic::operands::is_division;
-use integer::boolean::{either, flag};
 use integer::unsigned::{piece, subpiece};
-use operation::layout::{Spaces, Varnode, absent, opcode_at, varnode_at};
+use operation::layout::{INPUT0, INPUT1, INPUT2, OUTPUT, Spaces, Varnode, absent, opcode_at, varnode_at};
 use operation::rules::{accesses, jumps};
 use run_memory::labels::{each_label, has_secret, labels_at, ordered};
 use run_memory::space::are_bytes;
@@ -39,9 +38,9 @@ pub fn leaks_at(
         return has_secret(labels, sink_at(list, i));
     }
     if is_division(opcode) {
-        let secret_dividend = has_secret(labels, varnode_at(list, i, 1));
-        let secret_divisor = has_secret(labels, varnode_at(list, i, 2));
-        return either(secret_dividend, secret_divisor);
+        let secret_dividend = has_secret(labels, varnode_at(list, i, INPUT0));
+        let secret_divisor = has_secret(labels, varnode_at(list, i, INPUT1));
+        return secret_dividend | secret_divisor;
     }
     false
 }
@@ -54,11 +53,11 @@ fn sink_at(list: &[u64], i: usize) -> Varnode
     ensures place { (labels : Memory) → Valid (lengths_of labels) list.now → i < operation_count list.now → Placed labels result }
 {
     let opcode = opcode_at(list, i);
-    if either(accesses(opcode), opcode == CBRANCH) {
-        return varnode_at(list, i, 2);
+    if accesses(opcode) | (opcode == CBRANCH) {
+        return varnode_at(list, i, INPUT1);
     }
     if jumps(opcode) {
-        return varnode_at(list, i, 1);
+        return varnode_at(list, i, INPUT0);
     }
     absent()
 }
@@ -68,11 +67,11 @@ fn pointee_at(list: &[u64], i: usize, offset: u64, size: u64) -> Varnode
     requires { words_per_operation * i + words_per_operation ≤ length list.now }
     ensures { result ≡ pointee (operation_at list.now i) offset size }
 {
-    let input0 = varnode_at(list, i, 1);
+    let input0 = varnode_at(list, i, INPUT0);
     Varnode {
         space: input0.offset,
-        offset: offset,
-        size: size,
+        offset,
+        size,
     }
 }
 
@@ -82,10 +81,10 @@ pub fn target_at(list: &[u64], i: usize, offset: u64) -> Varnode
     ensures { result ≡ destination_bytes (operation_at list.now i) offset }
 {
     if opcode_at(list, i) == STORE {
-        let input2 = varnode_at(list, i, 3);
+        let input2 = varnode_at(list, i, INPUT2);
         return pointee_at(list, i, offset, input2.size);
     }
-    varnode_at(list, i, 0)
+    varnode_at(list, i, OUTPUT)
 }
 
 // The labels that operation i writes to its target, as the number that they make in little order. COPY, LOAD and STORE, which are all that write
@@ -108,13 +107,13 @@ pub fn labels_written(
         return labels_at(labels, source);
     }
     if moves(opcode) {
-        let output = varnode_at(list, i, 0);
+        let output = varnode_at(list, i, OUTPUT);
         let word = moved_word(big, list, labels, i);
         return ordered(big, output.size, word);
     }
-    let first = has_secret(labels, varnode_at(list, i, 1));
-    let second = has_secret(labels, varnode_at(list, i, 2));
-    each_label(flag(either(first, second)))
+    let first = has_secret(labels, varnode_at(list, i, INPUT0));
+    let second = has_secret(labels, varnode_at(list, i, INPUT1));
+    each_label(u64::from(first | second))
 }
 
 // What COPY, LOAD and STORE read: input0, the bytes loaded, or input2.
@@ -124,13 +123,13 @@ fn source_at(list: &[u64], i: usize, offset: u64) -> Varnode
 {
     let opcode = opcode_at(list, i);
     if opcode == LOAD {
-        let output = varnode_at(list, i, 0);
+        let output = varnode_at(list, i, OUTPUT);
         return pointee_at(list, i, offset, output.size);
     }
     if opcode == STORE {
-        return varnode_at(list, i, 3);
+        return varnode_at(list, i, INPUT2);
     }
-    varnode_at(list, i, 1)
+    varnode_at(list, i, INPUT0)
 }
 
 // Of the integer operations PIECE, SUBPIECE, INT_ZEXT and INT_SEXT move bytes.
@@ -153,9 +152,9 @@ fn moved_word(
     ensures { MovedWord big (held labels.entry) (operation_at list.now i) result }
 {
     let opcode = opcode_at(list, i);
-    let output = varnode_at(list, i, 0);
-    let input0 = varnode_at(list, i, 1);
-    let input1 = varnode_at(list, i, 2);
+    let output = varnode_at(list, i, OUTPUT);
+    let input0 = varnode_at(list, i, INPUT0);
+    let input1 = varnode_at(list, i, INPUT1);
     let a = labels_of(big, labels, input0);
     match opcode {
         PIECE => piece(

@@ -18,9 +18,8 @@ ghost use Rattle.run_plan.specs.Valid.{Valid};
 ghost use Rattle.run_execution.specs.Loops.{position};
 ghost use Rattle.run_window.specs.Windows.{Spared, Saved, words_marked, window_outcome};
 
-use integer::boolean::both;
 use operation::layout::{Settings, Spaces};
-use operation::report::{Report, run_report};
+use operation::report::{Ending, Report, run_report};
 use run_journal::{save, undo};
 use run_labelled::run_any;
 use run_memory::space::{are_words, reading};
@@ -129,7 +128,7 @@ fn run_saved(
         i = done.index as usize;
         k = done.logged as usize;
         executed = executed + done.executed;
-        if !both(done.ending == 2, executed < window) {
+        if !((done.ending == Ending::Budget as u64) & (executed < window)) {
             return run_report(done.ending, i, executed, k, done.value);
         }
     }

@@ -1,6 +1,7 @@
 -- `run_taint::labels_written` meets its contract.
 use native.Mathlib.Omega.{arith}
 use Rattle.arithmetic.specs.Opcodes.{member}
+use Rattle.integer.specs.Operations.{flag}
 use Rattle.machine.specs.Effect.{operation_at}
 use Rattle.machine.specs.Conditions.{moving}
 use Rattle.run_plan.proofs.Opcodes.{of_opcode}
@@ -67,13 +68,14 @@ has_secret-second-requires c =
     rw c.varnode_at-2.ensures (place_input _ _ _ _ c.requires 2 (omega arith))
 
 pub each_label-requires : goal.each_label-requires
-each_label-requires c = rw c.flag.ensures (flag_small _)
+unfolding flag
+each_label-requires c = rw c.from.ensures (flag_small _)
 
 pub returns : goal.returns
-unfolding operation_at
+unfolding operation_at flag
 returns c =
     let pre = c.requires in
     let none = of_opcode (λ n. member n moving) c.opcode_at-opcode.ensures c.moves.ensures c.if-moves.false in
     word_whole _ _ _ _ none (whole_most _ _ _ _ pre none)
     _ _ (rw c.varnode_at.ensures at c.has_secret-first.ensures) (rw c.varnode_at-2.ensures at c.has_secret-second.ensures)
-    _ (rw (c.flag.ensures, c.either.ensures) at c.each_label.ensures)
+    _ (rw c.from.ensures at c.each_label.ensures)

@@ -44,8 +44,7 @@ has_secret-secret_divisor-requires c =
 
 pub returns-then-is_division : goal.returns-then-is_division
 returns-then-is_division c =
-    c.either.ensures
-    ∙ rw (c.has_secret-secret_dividend.ensures, c.has_secret-secret_divisor.ensures, c.varnode_at.ensures, c.varnode_at-then-is_division.ensures)
+    rw (c.has_secret-secret_dividend.ensures, c.has_secret-secret_divisor.ensures, c.varnode_at.ensures, c.varnode_at-then-is_division.ensures)
     (operands_tell _ _ _ (of_opcode divides c.opcode_at-opcode.ensures c.is_division.ensures c.if-is_division.true))
 
 -- ---- any other
