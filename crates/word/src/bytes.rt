@@ -3,10 +3,22 @@ ghost use Rattle.std.specs.Prelude.{◌≡◌, ◌+◌, ◌<◌, ◌≤◌, leng
 ghost use Rattle.std.proofs.lemmas.List.Edits.{sets};
 ghost use Rattle.word.specs.Word.{part, significance, value_of, bytes_of};
 
-// The value of the `size` bytes at `at`. Where order and size are constants, the compiler makes one load of the walk: so the usual
-// sizes have calls of their own, and a caller that reads often has a call for each order. The other sizes are below 8; without
-// the remainder, which tells it so, the compiler prepares the walk for long parts.
+// The value of the `size` bytes at `at`. Where order and size are constants, the compiler makes one load of the walk: so each order
+// and each usual size has a call of its own.
 pub fn gather(big: bool, s: &[u8], at: usize, size: usize) -> u64
+    requires { (size ≤ 8) × (at + size ≤ length s.now) }
+    ensures { result ≡ value_of big (part s.now at size) }
+{
+    if big {
+        gather_sized(true, s, at, size)
+    } else {
+        gather_sized(false, s, at, size)
+    }
+}
+
+// The sizes by `if`, the usual first: over a `match` the runs are slower. The other sizes are below 8; without the remainder, which
+// tells it so, the compiler prepares the walk for long parts.
+fn gather_sized(big: bool, s: &[u8], at: usize, size: usize) -> u64
     requires { (size ≤ 8) × (at + size ≤ length s.now) }
     ensures { result ≡ value_of big (part s.now at size) }
 {
@@ -33,8 +45,19 @@ fn gather_walk(big: bool, s: &[u8], at: usize, size: usize) -> u64
     v
 }
 
-// Writes the `size` low bytes of `v` at `at`. The sizes are told apart as in `gather`.
+// Writes the `size` low bytes of `v` at `at`. Orders and sizes are told apart as in `gather`.
 pub fn scatter(big: bool, s: &mut [u8], at: usize, size: usize, v: u64)
+    requires { (size ≤ 8) × (at + size ≤ length s.old) }
+    ensures { s.new ≡ sets s.old at (bytes_of big size v) }
+{
+    if big {
+        scatter_sized(true, s, at, size, v)
+    } else {
+        scatter_sized(false, s, at, size, v)
+    }
+}
+
+fn scatter_sized(big: bool, s: &mut [u8], at: usize, size: usize, v: u64)
     requires { (size ≤ 8) × (at + size ≤ length s.old) }
     ensures { s.new ≡ sets s.old at (bytes_of big size v) }
 {
