@@ -16,8 +16,8 @@ pub fn gather(big: bool, s: &[u8], at: usize, size: usize) -> u64
     }
 }
 
-// The sizes by `if`, the usual first: over a `match` the runs are slower. The other sizes are below 8; without the remainder, which
-// tells it so, the compiler prepares the walk for long parts.
+// The sizes by `if`, the usual ones first: of a `match` the compiler orders the tests itself. The other sizes are below 8; without the
+// remainder, which tells it so, the compiler prepares the walk for long parts.
 fn gather_sized(big: bool, s: &[u8], at: usize, size: usize) -> u64
     requires { (size ≤ 8) × (at + size ≤ length s.now) }
     ensures { result ≡ value_of big (part s.now at size) }
