@@ -17,7 +17,7 @@ pub fn gather(big: bool, s: &[u8], at: usize, size: usize) -> u64
 }
 
 // The other sizes are below 8; without the remainder, which tells it so, the compiler prepares the walk for long parts. No hint to
-// inline stands here: with `inline(always)` what writes a varnode is no longer inlined itself, and the runs take a tenth longer.
+// inline stands here: with `inline(always)` what writes a varnode is no longer inlined itself, and the runs take more instructions.
 fn gather_sized(big: bool, s: &[u8], at: usize, size: usize) -> u64
     requires { (size ≤ 8) × (at + size ≤ length s.now) }
     ensures { result ≡ value_of big (part s.now at size) }
