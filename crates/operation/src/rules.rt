@@ -138,7 +138,8 @@ pub fn breaks_size(address_size: u64, opcode: u64, size: u64, size0: u64, size1:
     !sizes_agree(address_size, opcode, size, size0, size1)
 }
 
-// A target from index i by a signed 64-bit number: forward up to n, or back down to 0.
+// A target from index i by a signed 64-bit number: forward up to n, or back down to 0. Two comparisons of words: the sum as a signed
+// number would have to be proved to fit first.
 fn target_outside(n: u64, i: u64, offset: u64) -> bool
     requires { i ≤ n }
     ensures { result ≡ target_outside n i offset }

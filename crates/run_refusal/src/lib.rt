@@ -95,10 +95,7 @@ pub fn counts_fit(lengths: Lengths, words: Lengths) -> bool
 }
 
 // The refusals of filling counts: 11 for more labels than the largest space has bytes, or for counts that are too short; then 12.
-pub fn counting_refusal(
-    labels: Spaces<&[u8]>,
-    words: Lengths,
-) -> Result<(), Refused>
+pub fn counting_refusal(labels: Spaces<&[u8]>, words: Lengths) -> Result<(), Refused>
     ensures { reported result 0 ≡ cond (not (lengths_in_range (lengths_of (held labels.entry)) []
         && counts_fit (lengths_of (held labels.entry)) words)) (refusal_report 11 0)
         (cond (not (labels_in_range (held labels.entry))) (refusal_report 12 0) (refusal_report 0 0)) }

@@ -9,7 +9,7 @@ use operation::layout::{Settings, Wordsizes};
 use operation::report::{REPORT_NUMBERS, Report};
 use undrelvoa_faults::PLACE_WORDS;
 
-// The settings in their words.
+// The settings in their words. No `From`: that would stand in `operation`, where nothing else knows of these words.
 pub(crate) fn settings_in(words: &[u64]) -> Settings
     requires { length words.now ≡ settings_length }
     ensures { result ≡ settings_in words.now }

@@ -7,7 +7,6 @@ ghost use Rattle.undrelvoa_faults.specs.Faults.{sizes_present, value_fault, gath
 
 use arithmetic::opcodes::{FIRST_INTEGER, LAST_INTEGER, has_place};
 use arithmetic::operands::{is_division, sizes_agree};
-use integer::boolean::{both, pick, pick_test};
 use operation::layout::INPUT1;
 use operation::report::{REPORT_NUMBERS, Refusal};
 use word::size::{holds, is_size, within};
