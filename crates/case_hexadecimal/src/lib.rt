@@ -30,7 +30,8 @@ pub fn all_digits(s: &[u8]) -> bool
     s.iter().all(|c| digit(*c).is_some())
 }
 
-// The number that k digits at a place stand for. A character that is no digit counts as 0.
+// The number that k digits at a place stand for. A character that is no digit counts as 0. A place and k, not a slice: a
+// caller names each column once.
 pub fn number(s: &[u8], at: usize, k: usize) -> u64
     requires { (k ≤ word_digits) × (at + k ≤ length s.now) }
     ensures { result ≡ number_at s.now at k }

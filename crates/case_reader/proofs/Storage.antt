@@ -11,7 +11,7 @@ use borrow.Author.Tests.{eqb-true, leb-true}
 use lib.Dec.{eqb}
 use Rattle.operation.specs.Spaces.{Lengths}
 use Rattle.operation.specs.Rules.{length_of}
-use Rattle.machine.specs.Memory.{spaces, lengths_of, space_of, with_space}
+use Rattle.machine.specs.Memory.{space_of, with_space}
 use Rattle.case_frame.specs.Frames.{bytes_on}
 use Rattle.case_reader.specs.Limits.{most_case_bytes, Fits}
 use Rattle.case_reader.specs.Case.{zeros, in_space, stored}
@@ -132,9 +132,3 @@ module _ (l : Lengths) (f : Fits l) (space offset count : ℕ) {n : ℕ} {t : Bo
         ≡ stored (memory_in l r) space offset (bytes_on count s))
     unfolding memory_in stored with_space space_of length_of
     stored_ram k p = (extent r w ∙ h, rw (k, put l.ram r.ram w.ram f.ram (rw k at (within h)) p))
-
--- spaces that keep their lengths still fit
-pub kept_fits : (u g m u' g' m' : List ℕ) → Fits (lengths_of (spaces u g m)) → length u' ≡ length u → length g' ≡ length g → length m' ≡ length m
-    → Fits (lengths_of (spaces u' g' m'))
-unfolding lengths_of
-kept_fits u g m u' g' m' f a b c = record { unique = omega (arith, a, f.unique); register = omega (arith, b, f.register); ram = omega (arith, c, f.ram) }

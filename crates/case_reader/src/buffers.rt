@@ -11,7 +11,7 @@ use operation::layout::{Lengths, Settings, Spaces};
 // For the bytes of a space, or for their labels.
 pub type Room = [u8; MOST_CASE_BYTES];
 
-// What the lines of a case say; a case that needs more room has no lines.
+// What the lines of a case said. No space is longer than its room, and the words are those of whole operations.
 #[derive(Drop)]
 pub struct Buffers {
     pub settings: Settings,

@@ -149,6 +149,7 @@ fn store(
     }
     let at = offset as usize;
     let end = at + count;
+    // A call in each arm: the check does not follow a `&mut` that is one of three.
     match space {
         UNIQUE => store_bytes(s, &mut rooms.unique[at..end]),
         REGISTER => store_bytes(s, &mut rooms.register[at..end]),
