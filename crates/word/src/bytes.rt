@@ -4,7 +4,8 @@ ghost use Rattle.std.proofs.lemmas.List.Edits.{sets};
 ghost use Rattle.word.specs.Word.{part, significance, value_of, bytes_of};
 
 // The value of the `size` bytes at `at`. Where order and size are constants, the compiler makes one load of the walk: so each order
-// and each usual size has a call of its own.
+// and each usual size has a call of its own, compiled into every caller.
+#[inline(always)]
 pub fn gather(big: bool, s: &[u8], at: usize, size: usize) -> u64
     requires { (size ≤ 8) × (at + size ≤ length s.now) }
     ensures { result ≡ value_of big (part s.now at size) }
@@ -16,21 +17,25 @@ pub fn gather(big: bool, s: &[u8], at: usize, size: usize) -> u64
     }
 }
 
-// The other sizes are below 8; without the remainder, which tells it so, the compiler prepares the walk for long parts. No hint to
-// inline stands here: with `inline(always)` what writes a varnode is no longer inlined itself, and the runs take more instructions.
+// The other sizes are below 8; without the remainder, which tells it so, the compiler prepares the walk for long parts.
+#[inline(always)]
 fn gather_sized(big: bool, s: &[u8], at: usize, size: usize) -> u64
     requires { (size ≤ 8) × (at + size ≤ length s.now) }
     ensures { result ≡ value_of big (part s.now at size) }
 {
-    match size {
-        4 => gather_walk(big, s, at, 4),
-        8 => gather_walk(big, s, at, 8),
-        1 => gather_walk(big, s, at, 1),
-        _ => gather_walk(big, s, at, size % 8),
+    if size == 1 {
+        gather_walk(big, s, at, 1)
+    } else if size == 4 {
+        gather_walk(big, s, at, 4)
+    } else if size == 8 {
+        gather_walk(big, s, at, 8)
+    } else {
+        gather_walk(big, s, at, size % 8)
     }
 }
 
 // Each byte at its weight. The weights share no bit, so `|` adds; the compiler sees a load through it where it does not through `+`.
+#[inline(always)]
 fn gather_walk(big: bool, s: &[u8], at: usize, size: usize) -> u64
     requires { (size ≤ 8) × (at + size ≤ length s.now) }
     ensures { result ≡ value_of big (part s.now at size) }
@@ -43,30 +48,36 @@ fn gather_walk(big: bool, s: &[u8], at: usize, size: usize) -> u64
 }
 
 // Writes the `size` low bytes of `v` at `at`. Orders and sizes are told apart as in `gather`.
+#[inline(always)]
 pub fn scatter(big: bool, s: &mut [u8], at: usize, size: usize, v: u64)
     requires { (size ≤ 8) × (at + size ≤ length s.old) }
     ensures { s.new ≡ sets s.old at (bytes_of big size v) }
 {
     if big {
-        scatter_sized(true, s, at, size, v)
+        scatter_sized(true, s, at, size, v);
     } else {
-        scatter_sized(false, s, at, size, v)
+        scatter_sized(false, s, at, size, v);
     }
 }
 
+#[inline(always)]
 fn scatter_sized(big: bool, s: &mut [u8], at: usize, size: usize, v: u64)
     requires { (size ≤ 8) × (at + size ≤ length s.old) }
     ensures { s.new ≡ sets s.old at (bytes_of big size v) }
 {
-    match size {
-        4 => scatter_walk(big, s, at, 4, v),
-        8 => scatter_walk(big, s, at, 8, v),
-        1 => scatter_walk(big, s, at, 1, v),
-        _ => scatter_walk(big, s, at, size % 8, v),
+    if size == 1 {
+        scatter_walk(big, s, at, 1, v);
+    } else if size == 4 {
+        scatter_walk(big, s, at, 4, v);
+    } else if size == 8 {
+        scatter_walk(big, s, at, 8, v);
+    } else {
+        scatter_walk(big, s, at, size % 8, v);
     }
 }
 
 // Each byte from its weight.
+#[inline(always)]
 fn scatter_walk(big: bool, s: &mut [u8], at: usize, size: usize, v: u64)
     requires { (size ≤ 8) × (at + size ≤ length s.old) }
     ensures { s.new ≡ sets s.old at (bytes_of big size v) }
