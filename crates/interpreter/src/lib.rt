@@ -8,7 +8,7 @@ ghost use Rattle.machine.specs.Lent.{lent, SameBuffers};
 ghost use Rattle.runs.specs.Promises.{RunPromise, LabelledRunPromise};
 ghost use Rattle.show.specs.Show.{view, shown};
 
-use operation::layout::{Lengths, Settings, Spaces};
+use operation::layout::{Lengths, Settings, Spaces, Varnode};
 use operation::report::Report;
 
 pub use runs::{count_secrets, labelled_run, run, speculative_run};
@@ -52,15 +52,8 @@ pub fn labelled_step(
 }
 
 // The bytes of a varnode, as that very part of its space; an empty part where it has none.
-pub fn show<'a>(
-    unique: &'a [u8],
-    register: &'a [u8],
-    ram: &'a [u8],
-    space: u64,
-    offset: u64,
-    size: u64,
-) -> &'a [u8]
-    ensures { view result ≡ shown unique.entry register.entry ram.entry space offset size }
+pub fn show<'a>(memory: Spaces<&'a [u8]>, v: Varnode) -> &'a [u8]
+    ensures { view result ≡ shown memory.entry.unique memory.entry.register memory.entry.ram v.space v.offset v.size }
 {
-    show::show(unique, register, ram, space, offset, size)
+    show::show(memory, v)
 }

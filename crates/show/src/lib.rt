@@ -4,24 +4,18 @@
 ghost use Rattle.std.specs.Prelude.{◌≡◌};
 ghost use Rattle.show.specs.Show.{view, showable, shown_in, shown};
 
+use operation::layout::{RAM, REGISTER, Spaces, UNIQUE, Varnode};
 use word::size::{is_size, within};
 
 // The bytes of a varnode, as that very part of its space; an empty part where it has none.
-pub fn show<'a>(
-    unique: &'a [u8],
-    register: &'a [u8],
-    ram: &'a [u8],
-    space: u64,
-    offset: u64,
-    size: u64,
-) -> &'a [u8]
-    ensures { view result ≡ shown unique.entry register.entry ram.entry space offset size }
+pub fn show<'a>(memory: Spaces<&'a [u8]>, v: Varnode) -> &'a [u8]
+    ensures { view result ≡ shown memory.entry.unique memory.entry.register memory.entry.ram v.space v.offset v.size }
 {
-    match space {
-        2 => shown_in(unique, offset, size),
-        3 => shown_in(register, offset, size),
-        4 => shown_in(ram, offset, size),
-        _ => &ram[0..0],
+    match v.space {
+        UNIQUE => shown_in(memory.unique, v.offset, v.size),
+        REGISTER => shown_in(memory.register, v.offset, v.size),
+        RAM => shown_in(memory.ram, v.offset, v.size),
+        _ => &memory.ram[0..0],
     }
 }
 

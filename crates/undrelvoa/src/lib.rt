@@ -13,7 +13,7 @@ ghost use Rattle.undrelvoa.specs.Calls.{AnswerPromise, BuffersPromise, LabelledB
 ghost use Rattle.undrelvoa.specs.Calls.{ReportAnswerPromise, CountingBuffersPromise};
 ghost use Rattle.undrelvoa.specs.Answers.{verdict_words, shown_length, place_words};
 
-use operation::layout::{Lengths, Spaces};
+use operation::layout::{Lengths, Spaces, Varnode};
 use undrelvoa_faults::{of_gather, of_lengths, of_place, of_report, of_scatter, of_value};
 use word::bytes::{gather, scatter};
 use words::{settings_in, write_place, write_report};
@@ -412,22 +412,23 @@ pub extern "C" fn undrelvoa_show<'a>(
     if let Err(fault) = of_place(place.len()) {
         return fault.number();
     }
-    let shown = shown_length(unique, register, ram, space, offset, size);
-    write_place(place, space, offset, shown);
+    let memory = Spaces {
+        unique,
+        register,
+        ram,
+    };
+    let v = Varnode {
+        space,
+        offset,
+        size,
+    };
+    write_place(place, space, offset, shown_length(memory, v));
     0
 }
 
 // How many bytes are shown.
-fn shown_length<'a>(
-    unique: &'a [u8],
-    register: &'a [u8],
-    ram: &'a [u8],
-    space: u64,
-    offset: u64,
-    size: u64,
-) -> u64
-    ensures { result ≡ shown_length unique.now register.now ram.now space offset size }
+fn shown_length(memory: Spaces<&[u8]>, v: Varnode) -> u64
+    ensures { result ≡ shown_length memory.entry.unique.now memory.entry.register.now memory.entry.ram.now v.space v.offset v.size }
 {
-    let part = interpreter::show(unique, register, ram, space, offset, size);
-    part.len() as u64
+    interpreter::show(memory, v).len() as u64
 }

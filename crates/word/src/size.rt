@@ -44,7 +44,8 @@ pub fn holds(size: u64, x: u64) -> bool
 pub fn is_size(size: u64) -> bool
     ensures { result ≡ is_size size }
 {
-    (1 <= size) & (size <= 8)
+    let some = 1 <= size;
+    some & (size <= 8)
 }
 
 // The `size` bytes at `offset` lie within a space of `length` bytes. The sum of the two could wrap, so it is not made.

@@ -20,7 +20,7 @@ returns-in-4 c = c.shown_in-in-4.ensures ∙ simp c.in-4.is
 pub returns-in_default : goal.returns-in_default
 unfolding shown
 returns-in_default c =
-    let a : c.args.space ≢ 2 = omega arith in
-    let b : c.args.space ≢ 3 = omega arith in
-    let d : c.args.space ≢ 4 = omega arith in
+    let a : c.args.v.space ≢ 2 = omega arith in
+    let b : c.args.v.space ≢ 3 = omega arith in
+    let d : c.args.v.space ≢ 4 = omega arith in
     simp (ne_eqb _ 2 a, ne_eqb _ 3 b, ne_eqb _ 4 d)

@@ -6,4 +6,4 @@ use Rattle.undrelvoa.proofs.Shown.{shown-length}
 use Rattle.undrelvoa.proofs.shown_length.Goals as goal
 
 pub returns : goal.returns
-returns c = ap (λ (w : View). length w.bytes) c.show-part.ensures ∙ shown-length _ _ _ _ _ _
+returns c = ap (λ (w : View). length w.bytes) c.show.ensures ∙ shown-length _ _ _ _ _ _
