@@ -23,12 +23,12 @@ fn gather_sized(big: bool, s: &[u8], at: usize, size: usize) -> u64
     requires { (size ≤ 8) × (at + size ≤ length s.now) }
     ensures { result ≡ value_of big (part s.now at size) }
 {
-    if size == 1 {
+    if size == 8 {
+        gather_walk(big, s, at, 8)
+    } else if size == 1 {
         gather_walk(big, s, at, 1)
     } else if size == 4 {
         gather_walk(big, s, at, 4)
-    } else if size == 8 {
-        gather_walk(big, s, at, 8)
     } else {
         gather_walk(big, s, at, size % 8)
     }
@@ -65,12 +65,12 @@ fn scatter_sized(big: bool, s: &mut [u8], at: usize, size: usize, v: u64)
     requires { (size ≤ 8) × (at + size ≤ length s.old) }
     ensures { s.new ≡ sets s.old at (bytes_of big size v) }
 {
-    if size == 1 {
+    if size == 8 {
+        scatter_walk(big, s, at, 8, v);
+    } else if size == 1 {
         scatter_walk(big, s, at, 1, v);
     } else if size == 4 {
         scatter_walk(big, s, at, 4, v);
-    } else if size == 8 {
-        scatter_walk(big, s, at, 8, v);
     } else {
         scatter_walk(big, s, at, size % 8, v);
     }
