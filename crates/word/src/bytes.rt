@@ -95,10 +95,3 @@ fn weight(big: bool, n: usize, i: usize) -> usize
 {
     if big { n - 1 - i } else { i }
 }
-
-// As a function, the cast asks for no proof where a byte of a slice is read.
-pub fn wide(x: u8) -> u64
-    ensures { result ≡ x }
-{
-    x as u64
-}
