@@ -14,7 +14,7 @@ ghost use Rattle.run_execution.specs.Loops.{position};
 
 use integer::boolean::both;
 use operation::layout::{Settings, Spaces, operation_count};
-use operation::report::{Report, run_report};
+use operation::report::{Ending, Report, run_report};
 use run_memory::space::reading;
 use run_memory::varnode::write;
 use run_plan::plan_at;
@@ -43,25 +43,24 @@ pub fn run_from(
     let mut executed: u64 = 0;
     loop {
         if i == count {
-            return run_report(0, i, executed, k, 0);
+            return run_report(Ending::End as u64, i, executed, k, 0);
         }
         if executed == budget {
-            return run_report(2, i, executed, k, 0);
+            return run_report(Ending::Budget as u64, i, executed, k, 0);
         }
         let p = plan_at(settings, list, reading(memory), i);
         if 1 < p.stop {
             return run_report(p.stop, i, executed, k, 0);
         }
         if both(p.due, log.len() <= k) {
-            return run_report(34, i, executed, k, 0);
+            return run_report(Ending::Log as u64, i, executed, k, 0);
         }
         k = push(log, k, p.due, log_word(i, p.low));
-        executed = executed + 1;
+        executed += 1;
         if p.stop == 1 {
-            return run_report(1, i, executed, k, p.value);
+            return run_report(Ending::Exit as u64, i, executed, k, p.value);
         }
-        let target = p.target;
-        write(big, memory, target, p.value);
+        write(big, memory, p.target, p.value);
         i = p.next;
     }
 }

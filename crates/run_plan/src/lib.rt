@@ -17,15 +17,19 @@ use arithmetic::opcodes::{CBRANCH, FIRST_INTEGER, LOAD};
 use arithmetic::operands::is_division;
 use arithmetic::value;
 use integer::boolean::{both, flag, pick};
-use operation::layout::{RAM, Settings, Spaces, Varnode, absent, opcode_at, varnode_at, wordsize_of};
+use operation::layout::{
+    INPUT0, INPUT1, INPUT2, OUTPUT, RAM, Settings, Spaces, Varnode, absent, opcode_at, varnode_at,
+    wordsize_of,
+};
+use operation::report::Ending;
 use operation::rules::{accesses, branches, jumps, length_of};
 use run_memory::space::{are_bytes, lengths_of};
 use run_memory::varnode::value_at;
-use std::num::wrapping_add_u64;
 use word::size::within;
 
 // stop: 0 goes on at `next`, 1 EXIT with `value`, 32 BOUNDS, 33 ZERO. due: a log word with this low part is to be written. The target,
-// which may be absent, gets the value.
+// which may be absent, gets the value. Numbers and a flag for speed: with Options of an Ending and of a log word, LOAD, STORE and branches
+// of the plain run took up to 5 more instructions each.
 #[derive(Clone, Copy)]
 pub struct Plan {
     pub stop: u64,
@@ -42,12 +46,12 @@ fn control(stop: u64, next: usize, due: bool, low: u64, value: u64) -> Plan
 {
     let target = absent();
     Plan {
-        stop: stop,
-        next: next,
-        due: due,
-        low: low,
-        target: target,
-        value: value,
+        stop,
+        next,
+        due,
+        low,
+        target,
+        value,
     }
 }
 
@@ -59,10 +63,10 @@ fn writes(i: usize, due: bool, low: u64, target: Varnode, value: u64) -> Plan
     Plan {
         stop: 0,
         next: i + 1,
-        due: due,
-        low: low,
-        target: target,
-        value: value,
+        due,
+        low,
+        target,
+        value,
     }
 }
 
@@ -72,15 +76,15 @@ fn branch_at(list: &[u64], i: usize, condition: u64) -> Plan
     ensures { result ≡ branch_plan (operation_at list.now i) i condition }
 {
     let conditional = opcode_at(list, i) == CBRANCH;
-    let input0 = varnode_at(list, i, 1);
+    let input0 = varnode_at(list, i, INPUT0);
     if both(conditional, condition == 0) {
         return control(0, i + 1, true, 0, 0);
     }
     let low = flag(conditional);
     if input0.space == RAM {
-        return control(1, i, conditional, low, input0.offset);
+        return control(Ending::Exit as u64, i, conditional, low, input0.offset);
     }
-    let next = wrapping_add_u64(i as u64, input0.offset);
+    let next = (i as u64).wrapping_add(input0.offset);
     control(0, next as usize, conditional, low, 0)
 }
 
@@ -91,18 +95,18 @@ fn data_at(list: &[u64], i: usize, a: u64, b: u64) -> Plan
     ensures { result ≡ data_plan (operation_at list.now i) i a b }
 {
     let opcode = opcode_at(list, i);
-    let output = varnode_at(list, i, 0);
+    let output = varnode_at(list, i, OUTPUT);
     if opcode < FIRST_INTEGER {
         if jumps(opcode) {
-            return control(1, i, false, 0, a);
+            return control(Ending::Exit as u64, i, false, 0, a);
         }
         return writes(i, false, 0, output, a);
     }
     if both(is_division(opcode), b == 0) {
-        return control(33, i, false, 0, 0);
+        return control(Ending::Zero as u64, i, false, 0, 0);
     }
-    let input0 = varnode_at(list, i, 1);
-    let input1 = varnode_at(list, i, 2);
+    let input0 = varnode_at(list, i, INPUT0);
+    let input1 = varnode_at(list, i, INPUT1);
     let x = value(opcode, output.size, input0.size, input1.size, a, b);
     writes(i, false, 0, output, x)
 }
@@ -125,13 +129,7 @@ pub fn offset_in(settings: Settings, space: u64, length: u64, pointer: u64) -> u
 }
 
 // LOAD and STORE at a pointer: one read and one write, from or to the bytes at its byte offset.
-fn move_at(
-    settings: Settings,
-    list: &[u64],
-    memory: Spaces<&[u8]>,
-    i: usize,
-    pointer: u64,
-) -> Plan
+fn move_at(settings: Settings, list: &[u64], memory: Spaces<&[u8]>, i: usize, pointer: u64) -> Plan
     requires { (words_per_operation * i + words_per_operation ≤ length list.now) × (i < most_operations)
         × Movable (held memory) (operation_at list.now i)
         × Addressable settings (held memory) (operation_at list.now i) }
@@ -140,20 +138,20 @@ fn move_at(
 {
     let big = settings.order == 1;
     let loads = opcode_at(list, i) == LOAD;
-    let output = varnode_at(list, i, 0);
-    let input0 = varnode_at(list, i, 1);
-    let input2 = varnode_at(list, i, 3);
+    let output = varnode_at(list, i, OUTPUT);
+    let input0 = varnode_at(list, i, INPUT0);
+    let input2 = varnode_at(list, i, INPUT2);
     let moved = choose(loads, output, input2);
     let space = input0.offset;
     let lengths = lengths_of(memory);
     let length = length_of(lengths, space);
     let offset = offset_in(settings, space, length, pointer);
     if !within(offset, moved.size, length) {
-        return control(32, i, false, 0, 0);
+        return control(Ending::Bounds as u64, i, false, 0, 0);
     }
     let pointee = Varnode {
-        space: space,
-        offset: offset,
+        space,
+        offset,
         size: moved.size,
     };
     let from = choose(loads, pointee, input2);
@@ -163,12 +161,7 @@ fn move_at(
 }
 
 // The plan of operation i. Input1 is read for every operation: it is the pointer, the condition or the second operand, and 0 if absent.
-pub fn plan_at(
-    settings: Settings,
-    list: &[u64],
-    memory: Spaces<&[u8]>,
-    i: usize,
-) -> Plan
+pub fn plan_at(settings: Settings, list: &[u64], memory: Spaces<&[u8]>, i: usize) -> Plan
     requires { Valid (lengths_of (held memory)) list.now × (i < operation_count list.now)
         × (settings_in_range settings ≡ true) }
     ensures { result ≡ planned (program_of settings list.now) (held memory.entry)
@@ -179,7 +172,7 @@ pub fn plan_at(
     are_bytes(memory);
     let big = settings.order == 1;
     let opcode = opcode_at(list, i);
-    let input1 = varnode_at(list, i, 2);
+    let input1 = varnode_at(list, i, INPUT1);
     let b = value_at(big, memory, input1);
     let class = class_of(opcode);
     if class == 1 {
@@ -188,7 +181,7 @@ pub fn plan_at(
     if class == 2 {
         return branch_at(list, i, b);
     }
-    let input0 = varnode_at(list, i, 1);
+    let input0 = varnode_at(list, i, INPUT0);
     let a = value_at(big, memory, input0);
     data_at(list, i, a, b)
 }

@@ -1,4 +1,5 @@
 -- `run_plan::branch_at` meets its contract.
+use Rattle.std.proofs.Common.{refl}
 use Rattle.machine.specs.Effect.{operation_at}
 use Rattle.run_plan.proofs.Planning.{code_skips, code_leaves, code_follows}
 use Rattle.run_plan.proofs.branch_at.Goals as goal
@@ -19,4 +20,4 @@ pub returns : goal.returns
 unfolding operation_at
 returns c =
     code_follows _ _ _ _ _ c.opcode_at-conditional.ensures c.varnode_at-input0.ensures c.requires.2 _ c.both.ensures _
-    _ c.flag-low.ensures c.if-both.false c.if-input0-eq-RAM.false _ c.wrapping_add_u64-next.ensures.value c.control-2.ensures
+    _ c.flag-low.ensures c.if-both.false c.if-input0-eq-RAM.false _ refl c.control-2.ensures
