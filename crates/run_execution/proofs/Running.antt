@@ -4,7 +4,7 @@ use native.Mathlib.Nat.{sub-zero}
 use native.Mathlib.Numerals.{add-one}
 use native.Mathlib.Omega.{arith}
 use mathlib.Core.Path.{◌≡◌, refl, sym, ap, subst, ◌∙◌}
-use mathlib.Core.Bool.{Bool, true, false, cond, ◌&&◌}
+use mathlib.Core.Bool.{Bool, true, false, cond, ◌&&◌, true≢false}
 use mathlib.Core.List.{List, [], ◌∷◌, ◌++◌, append-nil}
 use borrow.Author.Tests.{lt-ltb, le-ltb, leb-true, leb-false, eq-eqb, ne_eqb}
 use lib.Dec.{eqb, ltb, leb}
@@ -32,6 +32,15 @@ use Rattle.run_plan.proofs.Places.{valid_with, index_small}
 use Rattle.run_execution.specs.Loops.{position}
 
 -- ---- the plan
+
+-- a plan without a failure: as its method finds it, or since it does not stop
+pub unfailed : (stop failed : Option Ending) → failed ≡ failure stop → ((why : Ending) → failed ≡ Some why → ⊥) → failure stop ≡ None
+unfailed stop None e n = sym e
+unfailed stop (Some why) e n = absurd (n why refl)
+
+pub unstopped : (stop : Option Ending) {t : Bool} → t ≡ is_some stop → t ≡ false → failure stop ≡ None
+unstopped None e f = refl
+unstopped (Some why) e f = absurd (true≢false (sym e ∙ f))
 
 -- a plan from slices that hold what the buffers hold
 pub planned_from : (program : Program) {held lent : Memory} (op : Operation) (i : ℕ) {p : Plan} → held ≡ lent
@@ -187,14 +196,7 @@ module _ (program : Program) (budget start from : ℕ) (log₀ : List ℕ) (m₀
       pub may_write : Placed m p.target
       may_write = rw ep (target_writable program m i still before_end _ _)
 
-      module _ (failed : Option Ending) (ef : failed ≡ failure p.stop) (none : (why : Ending) → failed ≡ Some why → ⊥) (logs : Bool) (el : logs ≡ is_some p.log) where
-        go : failure p.stop ≡ None
-        go = by failed ef none
-          where
-            by : (o : Option Ending) → o ≡ failure p.stop → ((why : Ending) → o ≡ Some why → ⊥) → failure p.stop ≡ None
-            by None e n = sym e
-            by (Some why) e n = absurd (n why refl)
-
+      module _ (go : failure p.stop ≡ None) (logs : Bool) (el : logs ≡ is_some p.log) where
         due_room : {t : Bool} → logs && leb (length log) k ≡ t → is_some p.log && eqb (position i k executed log).room 0 ≡ t
         unfolding position
         due_room f = rw (room_is (length log) k g.logs.place, ← el) f

@@ -49,17 +49,22 @@ pub fn run_from(
             return run_report(Ending::Budget as u64, i, executed, k, 0);
         }
         let p = plan_at(settings, list, reading(memory), i);
-        if let Some(why) = p.failure() {
-            return run_report(number(why), i, executed, k, 0);
+        let full = p.log.is_some() & (log.len() <= k);
+        if p.stop.is_some() {
+            if let Some(why) = p.failure() {
+                return run_report(number(why), i, executed, k, 0);
+            }
+            if full {
+                return run_report(Ending::Log as u64, i, executed, k, 0);
+            }
+            k = push(log, k, i, p.log);
+            return run_report(Ending::Exit as u64, i, executed + 1, k, p.value);
         }
-        if p.log.is_some() & (log.len() <= k) {
+        if full {
             return run_report(Ending::Log as u64, i, executed, k, 0);
         }
         k = push(log, k, i, p.log);
         executed += 1;
-        if p.stop.is_some() {
-            return run_report(Ending::Exit as u64, i, executed, k, p.value);
-        }
         write(big, memory, p.target, p.value);
         i = p.next;
     }
