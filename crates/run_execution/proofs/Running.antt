@@ -4,13 +4,15 @@ use native.Mathlib.Nat.{sub-zero}
 use native.Mathlib.Numerals.{add-one}
 use native.Mathlib.Omega.{arith}
 use mathlib.Core.Path.{◌≡◌, refl, sym, ap, subst, ◌∙◌}
-use mathlib.Core.Bool.{Bool, true, false, cond, ◌&&◌}
+use mathlib.Core.Bool.{Bool, true, false, cond, ◌&&◌, true≢false}
 use mathlib.Core.List.{List, [], ◌∷◌, ◌++◌, append-nil}
 use borrow.Author.Tests.{lt-ltb, le-ltb, leb-true, leb-false, eq-eqb, ne_eqb}
 use lib.Dec.{eqb, ltb, leb}
 use lib.ListN.{length, take, drop, set, length-set, take-append-drop}
 use lib.Seq.{length-take-le, take-suc-set, drop-set-lt, drop-drop}
 use Rattle.word.specs.Word.{bytes_of}
+use Rattle.std.specs.Prelude.{Option, Some, None, is_some, unwrap_or}
+use Rattle.operation.specs.declared.report.Ending.{Ending}
 use Rattle.operation.specs.Layout.{operation_count}
 use Rattle.validation.specs.Verdict.{most_operations, most_bytes, settings_in_range}
 use Rattle.machine.specs.Program.{Program, big_endian}
@@ -23,13 +25,22 @@ use Rattle.machine.proofs.Kept.{written_lengths}
 use Rattle.run_memory.specs.Placed.{Placed}
 use Rattle.run_plan.specs.declared.Plan.{Plan}
 use Rattle.run_plan.specs.Valid.{Valid}
-use Rattle.run_plan.specs.Plans.{planned}
+use Rattle.run_plan.specs.Plans.{number_of, failure, planned}
 use Rattle.run_plan.proofs.Steps.{words_of, applied, step_plain}
 use Rattle.run_plan.proofs.Bounds.{next_within, target_writable, low_small}
 use Rattle.run_plan.proofs.Places.{valid_with, index_small}
 use Rattle.run_execution.specs.Loops.{position}
 
 -- ---- the plan
+
+-- a plan without a failure: as its method finds it, or since it does not stop
+pub unfailed : (stop failed : Option Ending) → failed ≡ failure stop → ((why : Ending) → failed ≡ Some why → ⊥) → failure stop ≡ None
+unfailed stop None e n = sym e
+unfailed stop (Some why) e n = absurd (n why refl)
+
+pub unstopped : (stop : Option Ending) {t : Bool} → t ≡ is_some stop → t ≡ false → failure stop ≡ None
+unstopped None e f = refl
+unstopped (Some why) e f = absurd (true≢false (sym e ∙ f))
 
 -- a plan from slices that hold what the buffers hold
 pub planned_from : (program : Program) {held lent : Memory} (op : Operation) (i : ℕ) {p : Plan} → held ≡ lent
@@ -175,47 +186,47 @@ module _ (program : Program) (budget start from : ℕ) (log₀ : List ℕ) (m₀
       unfolding run position
       run_step = rw (fuel, step_plain program (position i k executed log) m g.words bytes still before_end, ← ep) refl
 
-      pub at_stop : 1 < p.stop → Finally (plain_outcome (record { ending = p.stop; index = i; executed = executed; logged = k; value = 0 }) m log)
+      pub at_stop : (why : Ending) → failure p.stop ≡ Some why → Finally (plain_outcome (record { ending = number_of why; index = i; executed = executed; logged = k; value = 0 }) m log)
       unfolding applied continued
-      at_stop h = finally p.stop 0 (run_step ∙ rw (lt-ltb 1 p.stop h) refl)
+      at_stop why h = finally (number_of why) 0 (run_step ∙ rw h refl)
 
-      pub may_log : (i < most_operations) × (p.low ≤ most_bytes)
+      pub may_log : (i < most_operations) × (unwrap_or p.log 0 ≤ most_bytes)
       may_log = (index_small (lengths_of m) program.list still i before_end, rw ep (low_small program m i still before_end _ _))
 
       pub may_write : Placed m p.target
       may_write = rw ep (target_writable program m i still before_end _ _)
 
-      module _ (go : p.stop ≤ 1) (full : Bool) (ef : full ≡ p.due && leb (length log) k) where
-        due_room : p.due && eqb (position i k executed log).room 0 ≡ full
+      module _ (go : failure p.stop ≡ None) (logs : Bool) (el : logs ≡ is_some p.log) where
+        due_room : {t : Bool} → logs && leb (length log) k ≡ t → is_some p.log && eqb (position i k executed log).room 0 ≡ t
         unfolding position
-        due_room = rw (room_is (length log) k g.logs.place) (sym ef)
+        due_room f = rw (room_is (length log) k g.logs.place, ← el) f
 
-        pub at_full : full ≡ true → Finally (plain_outcome (record { ending = 34; index = i; executed = executed; logged = k; value = 0 }) m log)
+        pub at_full : logs && leb (length log) k ≡ true → Finally (plain_outcome (record { ending = 34; index = i; executed = executed; logged = k; value = 0 }) m log)
         unfolding applied continued
-        at_full f = finally 34 0 (run_step ∙ rw (le-ltb 1 p.stop go, due_room, f) refl)
+        at_full f = finally 34 0 (run_step ∙ rw (go, due_room f) refl)
 
-        pub may_push : full ≡ false → p.due ≡ true → k < length log
-        may_push f d = leb-false (length log) k (let e : p.due && leb (length log) k ≡ false = sym ef ∙ f in rw d at e)
+        pub may_push : logs && leb (length log) k ≡ false → is_some p.log ≡ true → k < length log
+        may_push f d = leb-false (length log) k (rw (el, d) at f)
 
-        module _ (f : full ≡ false) (word k' : ℕ) (log' : List ℕ) (ew : word ≡ log_word i p.low) (ek : k' ≡ cond p.due (k + 1) k)
-            (el : log' ≡ cond p.due (set log k word) log) where
-          has_room : p.due && leb (length log) k ≡ false
-          has_room = sym ef ∙ f
+        module _ (f : logs && leb (length log) k ≡ false) (k' : ℕ) (log' : List ℕ) (ek : k' ≡ cond (is_some p.log) (k + 1) k)
+            (ew : log' ≡ cond (is_some p.log) (set log k (log_word i (unwrap_or p.log 0))) log) where
+          has_room : is_some p.log && leb (length log) k ≡ false
+          has_room = rw (← el) f
 
           moved_on : (next : ℕ) → advanced (position i k executed log) next (words_of p i) ≡ position next k' (executed + 1) log'
           unfolding words_of
-          moved_on next = rw (ek, el, ew) (advanced_is log₀ i k executed next (log_word i p.low) log g.logs p.due has_room)
+          moved_on next = rw (ek, ew) (advanced_is log₀ i k executed next (log_word i (unwrap_or p.log 0)) log g.logs (is_some p.log) has_room)
 
           pub logs_kept : Log log₀ log' k'
-          logs_kept = rw (ek, el, ew) (pushed log₀ log k (log_word i p.low) g.logs p.due has_room)
+          logs_kept = rw (ek, ew) (pushed log₀ log k (log_word i (unwrap_or p.log 0)) g.logs (is_some p.log) has_room)
 
-          pub at_exit : p.stop ≡ 1 → Finally (plain_outcome (record { ending = 1; index = i; executed = executed + 1; logged = k'; value = p.value }) m log')
+          pub at_exit : is_some p.stop ≡ true → Finally (plain_outcome (record { ending = 1; index = i; executed = executed + 1; logged = k'; value = p.value }) m log')
           unfolding applied continued position
           at_exit e =
               ended_at log₀ log' k' logs_kept 1 p.value i (executed + 1) unlabelled m
-              ∙ ap (outcome_of log₀) (sym (run_step ∙ rw (le-ltb 1 p.stop go, due_room, f, eq-eqb p.stop 1 e, moved_on i) refl) ∙ g.same)
+              ∙ ap (outcome_of log₀) (sym (run_step ∙ rw (go, due_room f, e, moved_on i) refl) ∙ g.same)
 
-          pub at_next : (p.stop ≡ 1 → ⊥) → (m' : Memory) → m' ≡ written m p.target (bytes_of (big_endian program.settings) p.target.size p.value)
+          pub at_next : is_some p.stop ≡ false → (m' : Memory) → m' ≡ written m p.target (bytes_of (big_endian program.settings) p.target.size p.value)
               → Going program budget start from log₀ m₀ p.next (executed + 1) k' log' m'
           unfolding applied continued position
           at_next e m' em = record {
@@ -232,7 +243,7 @@ module _ (program : Program) (budget start from : ℕ) (log₀ : List ℕ) (m₀
               went : run program (budget - executed) (position i k executed log) unlabelled m ≡ run program (budget - (executed + 1)) (position p.next k' (executed + 1) log') unlabelled m'
               went =
                   run_step
-                  ∙ rw (le-ltb 1 p.stop go, due_room, f, ne_eqb p.stop 1 e, moved_on p.next, ← em) refl
+                  ∙ rw (go, due_room f, e, moved_on p.next, ← em) refl
 
 -- a loop begins with the whole run before it
 pub begun : (program : Program) (budget start from : ℕ) (log : List ℕ) (m : Memory) → settings_in_range program.settings ≡ true → Words program.list

@@ -1,7 +1,7 @@
 // The plain loop: plan, then apply.
 #![tactic(auto)]
 
-ghost use Rattle.std.specs.Prelude.{◌≡◌, true, cond, ◌+◌, ◌≤◌, ◌<◌, length, set};
+ghost use Rattle.std.specs.Prelude.{◌≡◌, true, cond, ◌+◌, ◌≤◌, ◌<◌, length, set, is_some, unwrap_or};
 ghost use Rattle.operation.specs.Layout.{operation_count};
 ghost use Rattle.validation.specs.Verdict.{most_operations, most_bytes, settings_in_range};
 ghost use Rattle.machine.specs.Program.{program_of};
@@ -10,9 +10,9 @@ ghost use Rattle.machine.specs.Lent.{lent, SameBuffers};
 ghost use Rattle.machine.specs.Run.{log_word, run};
 ghost use Rattle.machine.specs.Calls.{unlabelled, outcome_of, plain_outcome};
 ghost use Rattle.run_plan.specs.Valid.{Valid};
+ghost use Rattle.run_plan.specs.Plans.{number_of};
 ghost use Rattle.run_execution.specs.Loops.{position};
 
-use integer::boolean::both;
 use operation::layout::{Settings, Spaces, operation_count};
 use operation::report::{Ending, Report, run_report};
 use run_memory::space::reading;
@@ -49,20 +49,32 @@ pub fn run_from(
             return run_report(Ending::Budget as u64, i, executed, k, 0);
         }
         let p = plan_at(settings, list, reading(memory), i);
-        if 1 < p.stop {
-            return run_report(p.stop, i, executed, k, 0);
+        let full = p.log.is_some() & (log.len() <= k);
+        if p.stop.is_some() {
+            if let Some(why) = p.failure() {
+                return run_report(number(why), i, executed, k, 0);
+            }
+            if full {
+                return run_report(Ending::Log as u64, i, executed, k, 0);
+            }
+            k = push(log, k, i, p.log);
+            return run_report(Ending::Exit as u64, i, executed + 1, k, p.value);
         }
-        if both(p.due, log.len() <= k) {
+        if full {
             return run_report(Ending::Log as u64, i, executed, k, 0);
         }
-        k = push(log, k, p.due, log_word(i, p.low));
+        k = push(log, k, i, p.log);
         executed += 1;
-        if p.stop == 1 {
-            return run_report(Ending::Exit as u64, i, executed, k, p.value);
-        }
         write(big, memory, p.target, p.value);
         i = p.next;
     }
+}
+
+// As a function, the number adds no cases to the proof of its caller.
+fn number(ending: Ending) -> u64
+    ensures { result ≡ number_of ending }
+{
+    ending as u64
 }
 
 // A log word is its operation's index times this, and a low part.
@@ -76,14 +88,15 @@ fn log_word(i: usize, low: u64) -> u64
     (i as u64) * INDEX_WEIGHT + low
 }
 
-// Writes a word at k, if it is due; the place of the next word.
-fn push(log: &mut [u64], k: usize, due: bool, word: u64) -> usize
-    requires { due ≡ true → k < length log.old }
-    ensures { (result ≡ cond due (k + 1) k) × (log.new ≡ cond due (set log.old k word) log.old) }
+// Writes the log word of operation i at k, if one is due; the place of the next word.
+fn push(log: &mut [u64], k: usize, i: usize, low: Option<u64>) -> usize
+    requires { (i < most_operations) × (unwrap_or low 0 ≤ most_bytes) × (is_some low ≡ true → k < length log.old) }
+    ensures { (result ≡ cond (is_some low) (k + 1) k)
+        × (log.new ≡ cond (is_some low) (set log.old k (log_word i (unwrap_or low 0))) log.old) }
 {
-    if due {
-        log[k] = word;
-        return k + 1;
-    }
-    k
+    let Some(low) = low else {
+        return k;
+    };
+    log[k] = log_word(i, low);
+    k + 1
 }

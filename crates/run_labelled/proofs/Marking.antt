@@ -10,6 +10,7 @@ use lib.Dec.{eqb, leb, ltb}
 use lib.ListN.{length, get_or, take, drop, length-append}
 use lib.Seq.{length-take-le, get_or-append_seam}
 use Rattle.word.specs.Word.{bytes_of}
+use Rattle.std.specs.Prelude.{Some, is_some}
 use Rattle.arithmetic.specs.Opcodes.{member}
 use Rattle.operation.specs.declared.layout.Varnode.{Varnode}
 use Rattle.operation.specs.declared.report.Report.{Report}
@@ -27,11 +28,11 @@ use Rattle.machine.proofs.Limits.{log_length}
 use Rattle.run_memory.specs.Placed.{Placed}
 use Rattle.run_plan.specs.declared.Plan.{Plan}
 use Rattle.run_plan.specs.Valid.{Valid}
-use Rattle.run_plan.specs.Plans.{control, low_due, exit_plan, next_plan, planned}
+use Rattle.run_plan.specs.Plans.{control, failure, log_due, exit_plan, next_plan, planned}
 use Rattle.run_plan.proofs.Bounds.{loaded_within, destination_placed, offset_small}
 use Rattle.run_plan.proofs.Opcodes.{each_access, each_branch, no_access}
 use Rattle.run_plan.proofs.Places.{valid_with, space_length, movable, branching}
-use Rattle.run_plan.proofs.Steps.{words_of, applied, step_leak, step_applied, step_plain}
+use Rattle.run_plan.proofs.Steps.{number_in, words_of, applied, step_leak, step_applied, step_plain}
 use Rattle.run_execution.specs.Loops.{position}
 use Rattle.run_execution.proofs.Running.{ended_at, room_is, run_end}
 use Rattle.run_taint.specs.Taint.{LabelWord}
@@ -70,7 +71,7 @@ other_target op b c e = let n = no_access op.opcode e in rw n.n3 refl
 
 -- ---- the plan of an operation that goes on
 
-module _ (program : Program) (m : Memory) (op : Operation) (i a b : ℕ) (es : ltb 1 (planned program m op i a b).stop ≡ false) where
+module _ (program : Program) (m : Memory) (op : Operation) (i a b : ℕ) (es : is_some (failure (planned program m op i a b).stop) ≡ false) where
   pub plan_inside : out_of_bounds m op b ≡ false
   unfolding planned control
   plan_inside = by (out_of_bounds m op b) refl
@@ -79,7 +80,7 @@ module _ (program : Program) (m : Memory) (op : Operation) (i a b : ℕ) (es : l
       by true e = absurd (true≢false (rw e at es))
       by false e = refl
 
-  pub plan_next : eqb (planned program m op i a b).stop 1 ≡ false → planned program m op i a b ≡ next_plan op i b (value_written program m op a b)
+  pub plan_next : is_some (planned program m op i a b).stop ≡ false → planned program m op i a b ≡ next_plan op i b (value_written program m op a b)
   unfolding planned control exit_plan
   plan_next ex = by (divides_by_zero op b) refl (exits op b) refl
     where
@@ -97,8 +98,8 @@ access_logs : (op : Operation) → accesses op.opcode ≡ true → writes_log op
 unfolding writes_log member
 access_logs op e = each_access (λ n. member n (2 ∷ 3 ∷ 5 ∷ []) ≡ true) refl refl op.opcode e
 
-access_low : (op : Operation) (b : ℕ) → accesses op.opcode ≡ true → low_due op b ≡ b
-unfolding low_due low_part
+access_low : (op : Operation) (b : ℕ) → accesses op.opcode ≡ true → log_due op b ≡ Some b
+unfolding log_due low_part
 access_low op b e = rw (access_logs op e, each_access (λ n. eqb n 5 ≡ false) refl refl op.opcode e) refl
 
 -- bounds are a matter of lengths
@@ -194,11 +195,11 @@ module _ (program : Program) (i k : ℕ) (log : List ℕ) (labels m : Memory) (w
         unfolding run position
         labelled_step = ap (continued (run program 0)) (step_applied program at labels m words bytes v inside public)
 
-        no_room : {t : Bool} → P.due && leb (length log) k ≡ t → P.due && eqb at.room 0 ≡ t
+        no_room : {t : Bool} → is_some P.log && leb (length log) k ≡ t → is_some P.log && eqb at.room 0 ≡ t
         unfolding position
         no_room e = rw (room_is (length log) k place) e
 
-        module _ (es : ltb 1 P.stop ≡ false) (ef : P.due && leb (length log) k ≡ false) (ex : eqb P.stop 1 ≡ false) where
+        module _ (es : is_some (failure P.stop) ≡ false) (ef : is_some P.log && leb (length log) k ≡ false) (ex : is_some P.stop ≡ false) where
           next : P ≡ next_plan op i b (value_written program m op a b)
           next = plan_next program m op i a b es ex
 
@@ -220,22 +221,18 @@ module _ (program : Program) (i k : ℕ) (log : List ℕ) (labels m : Memory) (w
           went_labelled = labelled_step ∙ rw (es, no_room ef, ex) refl
 
           -- the log word of LOAD and STORE
-          due : accesses op.opcode ≡ true → P.due ≡ true
+          logged : accesses op.opcode ≡ true → P.log ≡ Some b
           unfolding next_plan
-          due e = ap (λ (p : Plan). p.due) next ∙ access_logs op e
-
-          low : accesses op.opcode ≡ true → P.low ≡ b
-          unfolding next_plan
-          low e = ap (λ (p : Plan). p.low) next ∙ access_low op b e
+          logged e = ap (λ (p : Plan). p.log) next ∙ access_low op b e
 
           room : accesses op.opcode ≡ true → k < length log
-          room e = leb-false (length log) k (rw (due e) at ef)
+          room e = leb-false (length log) k (rw (logged e) at ef)
 
           word_at : accesses op.opcode ≡ true → get_or log₁ k 0 ≡ log_word i b
           unfolding advanced position words_of log_after
           word_at e =
               let w : log₁ ≡ (take k log ++ (log_word i b ∷ [])) ++ drop (length (take k log ++ (log_word i b ∷ []))) log =
-              log_is 1 ending 0 after n plain went_plain ∙ rw (due e, low e) refl in
+              log_is 1 ending 0 after n plain went_plain ∙ rw (logged e) refl in
               let l : length (take k log) ≡ k = length-take-le k log place in
               seam _ w l
             where
@@ -256,7 +253,7 @@ module _ (program : Program) (i k : ℕ) (log : List ℕ) (labels m : Memory) (w
           unfolding advanced position words_of
           longer e =
               let l : length (take k log ++ (log_word i b ∷ [])) ≤ length log = rw (length-append (take k log) (log_word i b ∷ []), length-take-le k log place) (let h = room e in omega arith) in
-              let w : log₁ ≡ log_after (take k log ++ (log_word i b ∷ [])) log = log_is 1 ending 0 after n plain went_plain ∙ rw (due e, low e) refl in
+              let w : log₁ ≡ log_after (take k log ++ (log_word i b ∷ [])) log = log_is 1 ending 0 after n plain went_plain ∙ rw (logged e) refl in
               let h = room e in
               rw (w, log_length (take k log ++ (log_word i b ∷ [])) log l) h
 
@@ -281,10 +278,10 @@ module _ (program : Program) (i k : ℕ) (log : List ℕ) (labels m : Memory) (w
 
         pub done_step : Done 1
         unfolding applied continued
-        done_step = by (ltb 1 P.stop) refl (P.due && leb (length log) k) refl (eqb P.stop 1) refl
+        done_step = by (is_some (failure P.stop)) refl (is_some P.log && leb (length log) k) refl (is_some P.stop) refl
           where
-            by : (s : Bool) → ltb 1 P.stop ≡ s → (f : Bool) → P.due && leb (length log) k ≡ f → (x : Bool) → eqb P.stop 1 ≡ x → Done 1
-            by true es f ef x ex = stopped 1 P.stop plain (plain_step_lem ∙ rw es refl) (labelled_step ∙ rw es refl)
+            by : (s : Bool) → is_some (failure P.stop) ≡ s → (f : Bool) → is_some P.log && leb (length log) k ≡ f → (x : Bool) → is_some P.stop ≡ x → Done 1
+            by true es f ef x ex = stopped 1 (number_in (failure P.stop)) plain (plain_step_lem ∙ rw es refl) (labelled_step ∙ rw es refl)
             by false es true ef x ex = stopped 1 34 plain (plain_step_lem ∙ rw (es, no_room ef) refl) (labelled_step ∙ rw (es, no_room ef) refl)
             by false es false ef true ex =
                 let p : Position = advanced at at.index (words_of P at.index) in

@@ -1,5 +1,5 @@
 -- What a plan keeps within: its next index, its target and its log word.
-use Rattle.std.proofs.Common.{◌≡◌, ℕ, ◌+◌, ◌%◌, ◌^◌, ◌<◌, ◌≤◌, Bool, true, false, not, ◌&&◌, ◌||◌, eqb, leb, [], ◌∷◌, length, sym, refl, true≢false, arith, eq-eqb, eqb-true, leb-true}
+use Rattle.std.proofs.Common.{◌≡◌, ℕ, ◌+◌, ◌%◌, ◌^◌, ◌<◌, ◌≤◌, Bool, true, false, not, ◌&&◌, ◌||◌, eqb, leb, [], ◌∷◌, length, Option, unwrap_or, sym, refl, true≢false, arith, eq-eqb, eqb-true, leb-true}
 use borrow.Author.Tests.{not-false}
 use Rattle.word.proofs.Tests.{by_cond}
 use Rattle.integer.proofs.Booleans.{both, neither, flag_lt}
@@ -20,7 +20,7 @@ use Rattle.machine.proofs.Ranges.{space_small}
 use Rattle.run_memory.specs.Placed.{Placed}
 use Rattle.run_plan.specs.declared.Plan.{Plan}
 use Rattle.run_plan.specs.Valid.{Valid}
-use Rattle.run_plan.specs.Plans.{control, low_due, exit_plan, next_plan, planned}
+use Rattle.run_plan.specs.Plans.{control, log_due, exit_plan, next_plan, planned}
 use Rattle.run_plan.proofs.Places.{placed, movable}
 
 pub nowhere : (m : Memory) → Placed m absent
@@ -128,11 +128,11 @@ module _ (program : Program) (m : Memory) (i : ℕ) (v : Valid (lengths_of m) pr
 
   -- ---- the low part of the log word is small
 
-  abbrev pub Low : Plan → Type 0
-  Low p = p.low ≤ most_bytes
+  abbrev Small : Option ℕ → Type 0
+  Small low = unwrap_or low 0 ≤ most_bytes
 
-  abbrev Small : ℕ → Type 0
-  Small n = n ≤ most_bytes
+  abbrev pub Low : Plan → Type 0
+  Low p = Small p.log
 
   pub offset_small : (b : ℕ) → out_of_bounds m op b ≡ false → accesses op.opcode ≡ true → b ≤ most_bytes
   unfolding accesses member
@@ -145,11 +145,11 @@ module _ (program : Program) (m : Memory) (i : ℕ) (v : Valid (lengths_of m) pr
   unfolding accesses member
   logs_access n n5 k = when n 2 (λ e. rw e refl) (λ n2. when n 3 (λ e. rw e refl) (λ n3. absurd (true≢false (sym (rw (n2, n3, n5) at k)))))
 
-  low_due_lem : (b : ℕ) → out_of_bounds m op b ≡ false → Small (low_due op b)
-  unfolding low_due low_part writes_log
-  low_due_lem b o =
+  log_due_lem : (b : ℕ) → out_of_bounds m op b ≡ false → Small (log_due op b)
+  unfolding log_due low_part writes_log
+  log_due_lem b o =
       by_cond Small (writes_log op) _ _
-      (λ k. by_cond Small (eqb op.opcode 5) _ _ (λ c. omega (arith, flag_lt (taken op b))) (λ n5. offset_small b o (logs_access op.opcode n5 k)))
+      (λ k. by_cond (λ (n : ℕ). n ≤ most_bytes) (eqb op.opcode 5) _ _ (λ c. omega (arith, flag_lt (taken op b))) (λ n5. offset_small b o (logs_access op.opcode n5 k)))
       (λ k. omega arith)
 
   pub low_small : (a b : ℕ) → Low (planned program m op i a b)
@@ -157,4 +157,4 @@ module _ (program : Program) (m : Memory) (i : ℕ) (v : Valid (lengths_of m) pr
   low_small a b =
       let none : 0 ≤ most_bytes = omega arith in
       by_cond Low (out_of_bounds m op b) _ _ (λ o. none)
-      (λ o. either Low (divides_by_zero op b) _ _ none (either Low (exits op b) _ _ (low_due_lem b o) (low_due_lem b o)))
+      (λ o. either Low (divides_by_zero op b) _ _ none (either Low (exits op b) _ _ (log_due_lem b o) (log_due_lem b o)))

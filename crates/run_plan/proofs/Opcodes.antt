@@ -1,5 +1,5 @@
 -- An operation by its opcode: what holds of the opcodes of a class holds of every operation whose opcode is one of them.
-use Rattle.std.proofs.Common.{◌≡◌, ℕ, ◌≤◌, Bool, true, false, ◌||◌, eqb, [], ◌∷◌, sym, refl, ap, ◌∙◌, subst, true≢false, arith, eq-eqb, ne_eqb}
+use Rattle.std.proofs.Common.{◌≡◌, ℕ, ◌≤◌, Bool, true, false, cond, ◌||◌, eqb, [], ◌∷◌, sym, refl, ap, ◌∙◌, subst, true≢false, arith, eq-eqb, ne_eqb}
 use borrow.Author.Tests.{eqb-false}
 use Rattle.integer.proofs.Booleans.{neither}
 use Rattle.arithmetic.specs.Opcodes.{first_integer, member}
@@ -9,6 +9,9 @@ use Rattle.operation.specs.Rules.{accesses, branches, jumps}
 use Rattle.operation.specs.Layout.{absent}
 use Rattle.machine.specs.Effect.{Operation}
 use Rattle.machine.proofs.Conditions.{when, no_division}
+use Rattle.run_plan.specs.declared.Class.{Class}
+use Rattle.run_plan.specs.declared.Class.TheVariants.{Access, Branch, Data}
+use Rattle.run_plan.specs.Plans.{class_of}
 
 abbrev pub operation : (opcode : ℕ) (output input0 input1 input2 : Varnode) → Operation
 operation opcode output input0 input1 input2 = record { opcode = opcode; output = output; input0 = input0; input1 = input1; input2 = input2 }
@@ -52,6 +55,34 @@ each_jump P p6 p8 p9 n j =
 pub access_no_branch : (n : ℕ) → accesses n ≡ true → branches n ≡ false
 unfolding branches member
 access_no_branch n a = each_access (λ k. branches k ≡ false) refl refl n a
+
+-- what the class of the opcode n that the code decoded says of the operation's
+class_as : {n k : ℕ} {c t : Class} → n ≡ k → c ≡ class_of n → c ≡ t → class_of k ≡ t
+class_as e ec h = ap class_of (sym e) ∙ sym ec ∙ h
+
+pub class_access : {n k : ℕ} {c : Class} → n ≡ k → c ≡ class_of n → c ≡ Access → accesses k ≡ true
+class_access {n} {k} e ec h = by (accesses k) (branches k) (class_as e ec h)
+  where
+    by : (a b : Bool) → cond a Access (cond b Branch Data) ≡ Access → a ≡ true
+    by true b z = refl
+    by false true z = cc
+    by false false z = cc
+
+pub class_branch : {n k : ℕ} {c : Class} → n ≡ k → c ≡ class_of n → c ≡ Branch → branches k ≡ true
+class_branch {n} {k} e ec h = by (accesses k) (branches k) (class_as e ec h)
+  where
+    by : (a b : Bool) → cond a Access (cond b Branch Data) ≡ Branch → b ≡ true
+    by a true z = refl
+    by true false z = cc
+    by false false z = cc
+
+pub class_data : {n k : ℕ} {c : Class} → n ≡ k → c ≡ class_of n → c ≡ Data → (accesses k ≡ false) × (branches k ≡ false)
+class_data {n} {k} e ec h = by (accesses k) (branches k) (class_as e ec h)
+  where
+    by : (a b : Bool) → cond a Access (cond b Branch Data) ≡ Data → (a ≡ false) × (b ≡ false)
+    by true b z = cc
+    by false true z = cc
+    by false false z = (refl, refl)
 
 -- from the first integer operation on there is none of them
 pub late_no_access : (n : ℕ) → first_integer ≤ n → accesses n ≡ false

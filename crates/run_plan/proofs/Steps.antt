@@ -1,9 +1,11 @@
 -- From a plan to the machine's step.
-use Rattle.std.proofs.Common.{◌≡◌, ℕ, ◌<◌, Bool, true, false, cond, ◌&&◌, eqb, ltb, List, [], ◌∷◌, sym, refl, ◌∙◌, lt-ltb}
+use Rattle.std.proofs.Common.{◌≡◌, ℕ, ◌<◌, Bool, true, false, cond, ◌&&◌, eqb, List, [], ◌∷◌, Option, None, Some, is_some, unwrap_or, sym, refl, ◌∙◌, lt-ltb}
 use Rattle.word.specs.Word.{bytes_of}
 use Rattle.integer.proofs.Booleans.{and-false}
 use Rattle.arithmetic.specs.Opcodes.{member}
 use Rattle.operation.specs.declared.layout.Varnode.{Varnode}
+use Rattle.operation.specs.declared.report.Ending.{Ending}
+use Rattle.operation.specs.declared.report.Ending.TheVariants.{Bounds, Zero}
 use Rattle.operation.specs.Layout.{operation_count}
 use Rattle.machine.specs.Program.{Program, big_endian}
 use Rattle.machine.specs.Memory.{Memory, OfBytes, lengths_of, written, value_at}
@@ -16,18 +18,23 @@ use Rattle.machine.proofs.Plain.{nothing_secret, nothing_written}
 use Rattle.machine.proofs.Conditions.{formed, few_operations, meets, one_secret}
 use Rattle.run_plan.specs.declared.Plan.{Plan}
 use Rattle.run_plan.specs.Valid.{Valid}
-use Rattle.run_plan.specs.Plans.{control, stop_plan, low_due, exit_plan, next_plan, planned}
+use Rattle.run_plan.specs.Plans.{number_of, failure, control, stop_plan, log_due, exit_plan, next_plan, planned}
 
 -- The log word of a plan.
 unfoldable pub words_of : Plan → (i : ℕ) → List ℕ
-words_of p i = cond p.due (log_word i p.low ∷ []) []
+words_of p i = cond (is_some p.log) (log_word i (unwrap_or p.log 0) ∷ []) []
+
+-- The number of an ending, if there is one.
+abbrev pub number_in : Option Ending → ℕ
+number_in None = 0
+number_in (Some why) = number_of why
 
 -- A plan carried out.
 unfoldable pub applied : Program → Plan → Position → (labels marked memory : Memory) → Stepped
 applied program p at labels marked m =
-    cond (ltb 1 p.stop) (Stepped.halted (ended p.stop 0 at labels m))
-    (cond (p.due && eqb at.room 0) (Stepped.halted (ended 34 0 at labels m))
-    (cond (eqb p.stop 1) (Stepped.halted (ended 1 p.value (advanced at at.index (words_of p at.index)) labels m))
+    cond (is_some (failure p.stop)) (Stepped.halted (ended (number_in (failure p.stop)) 0 at labels m))
+    (cond (is_some p.log && eqb at.room 0) (Stepped.halted (ended 34 0 at labels m))
+    (cond (is_some p.stop) (Stepped.halted (ended 1 p.value (advanced at at.index (words_of p at.index)) labels m))
     (Stepped.going (advanced at p.next (words_of p at.index)) marked
     (written m p.target (bytes_of (big_endian program.settings) p.target.size p.value)))))
 
@@ -42,7 +49,7 @@ module _ (program : Program) (op : Operation) (a b : ℕ) (at : Position) (label
       (written m (destination_bytes op b) (bytes_of (big_endian program.settings) (destination_bytes op b).size (value_written program m op a b)))
 
   pub exact_step_applied : exact_step_with program op a b at labels marked m ≡ applied program (planned program m op at.index a b) at labels marked m
-  unfolding exact_step_with position_after planned applied words_of exit_plan next_plan control low_due log_word log_word_of
+  unfolding exact_step_with position_after planned applied words_of exit_plan next_plan control log_due log_word log_word_of
   exact_step_applied = by (out_of_bounds m op b) (divides_by_zero op b) (writes_log op) refl (eqb at.room 0) refl (exits op b)
     where
       by : (o z w : Bool) → writes_log op ≡ w → (f : Bool) → eqb at.room 0 ≡ f → (x : Bool)
@@ -50,8 +57,8 @@ module _ (program : Program) (op : Operation) (a b : ℕ) (at : Position) (label
           (cond z (Stepped.halted (ended 33 0 at labels m))
           (cond (writes_log op && eqb at.room 0) (Stepped.halted (ended 34 0 at labels m)) (cond x leaving onward)))
           ≡ applied program
-          (cond o (stop_plan 32 at.index)
-          (cond z (stop_plan 33 at.index) (cond x (exit_plan op at.index a b) (next_plan op at.index b (value_written program m op a b)))))
+          (cond o (stop_plan Bounds at.index)
+          (cond z (stop_plan Zero at.index) (cond x (exit_plan op at.index a b) (next_plan op at.index b (value_written program m op a b)))))
           at labels marked m
       by true z w ew f ef x = refl
       by false true w ew f ef x = refl

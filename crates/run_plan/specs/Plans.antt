@@ -1,8 +1,10 @@
 -- What the code plans for an operation before anything is written, in the words of the machine's exact conditions; a is the value of
 -- input0 and b the number that input1 stands for.
-use Rattle.std.specs.Prelude.{◌≡◌, ℕ, ◌<◌, ◌≤◌, Bool, true, false, cond, not, length, ◌==◌, ◌≢◌, nat_eq}
+use Rattle.std.specs.Prelude.{◌≡◌, ℕ, ◌<◌, ◌≤◌, true, false, cond, not, length, Option, Some, None, ◌==◌, ◌≢◌, nat_eq}
 use Rattle.arithmetic.specs.Operands.{divides, Operands}
 use Rattle.operation.specs.declared.layout.Settings.{Settings}
+use Rattle.operation.specs.declared.report.Ending.{Ending}
+use Rattle.operation.specs.declared.report.Ending.TheVariants.{End, Exit, Budget, Leak, Bounds, Zero, Log, LeakAhead}
 use Rattle.operation.specs.Rules.{accesses, branches, jumps}
 use Rattle.validation.specs.Verdict.{most_bytes}
 use Rattle.machine.specs.Program.{Program}
@@ -12,40 +14,63 @@ use Rattle.machine.specs.Effect.{Operation}
 use Rattle.machine.specs.Conditions.{out_of_bounds, divides_by_zero, writes_log, low_part, exits, destination, next_index, destination_bytes, value_computed, value_moved, value_written}
 use Rattle.run_memory.specs.Placed.{Placed}
 use Rattle.run_plan.specs.declared.Plan.{Plan}
+use Rattle.run_plan.specs.declared.Class.{Class}
+use Rattle.run_plan.specs.declared.Class.TheVariants.{Access, Branch, Data}
+
+-- The number of an ending in a report.
+abbrev pub number_of : Ending → ℕ
+number_of End = 0
+number_of Exit = 1
+number_of Budget = 2
+number_of Leak = 31
+number_of Bounds = 32
+number_of Zero = 33
+number_of Log = 34
+number_of LeakAhead = 35
+
+-- What ends the run before the operation counts; EXIT ends it after.
+abbrev pub failure : Option Ending → Option Ending
+failure None = None
+failure (Some Exit) = None
+failure (Some why) = Some why
 
 -- A plan that writes nothing.
-unfoldable pub control : (stop next : ℕ) → (due : Bool) → (low value : ℕ) → Plan
-control stop next due low value = record { stop = stop; next = next; due = due; low = low; target = absent; value = value }
+unfoldable pub control : (stop : Option Ending) → (next : ℕ) → (log : Option ℕ) → (value : ℕ) → Plan
+control stop next log value = record { stop = stop; next = next; log = log; target = absent; value = value }
 
--- A stop, 32 BOUNDS or 33 ZERO.
-abbrev pub stop_plan : (ending i : ℕ) → Plan
-stop_plan ending i = control ending i false 0 0
+-- A stop by BOUNDS or ZERO.
+abbrev pub stop_plan : Ending → (i : ℕ) → Plan
+stop_plan ending i = control (Some ending) i None 0
 
--- The low part of the log word that is due; 0 where none is.
-unfoldable pub low_due : Operation → (b : ℕ) → ℕ
-low_due op b = cond (writes_log op) (low_part op b) 0
+-- The low part of the log word that is due.
+unfoldable pub log_due : Operation → (b : ℕ) → Option ℕ
+log_due op b = cond (writes_log op) (Some (low_part op b)) None
 
 -- EXIT.
 unfoldable pub exit_plan : Operation → (i a b : ℕ) → Plan
-exit_plan op i a b = control 1 i (writes_log op) (low_due op b) (destination op a)
+exit_plan op i a b = control (Some Exit) i (log_due op b) (destination op a)
 
 -- Going on, after this value is written.
 unfoldable pub next_plan : Operation → (i b value : ℕ) → Plan
 next_plan op i b value =
-    record { stop = 0; next = next_index op i b; due = writes_log op; low = low_due op b; target = destination_bytes op b; value = value }
+    record { stop = None; next = next_index op i b; log = log_due op b; target = destination_bytes op b; value = value }
 
 -- BOUNDS; ZERO; EXIT; or going on. LEAK comes before the plan, and LOG after it.
 unfoldable pub planned : Program → Memory → Operation → (i a b : ℕ) → Plan
 planned program m op i a b =
-    cond (out_of_bounds m op b) (stop_plan 32 i)
-    (cond (divides_by_zero op b) (stop_plan 33 i)
+    cond (out_of_bounds m op b) (stop_plan Bounds i)
+    (cond (divides_by_zero op b) (stop_plan Zero i)
     (cond (exits op b) (exit_plan op i a b) (next_plan op i b (value_written program m op a b))))
 
 -- ---- the same by opcode: LOAD and STORE; BRANCH, CBRANCH and CALL; all others
 
+-- Which of the three.
+abbrev pub class_of : (opcode : ℕ) → Class
+class_of opcode = cond (accesses opcode) Access (cond (branches opcode) Branch Data)
+
 -- LOAD and STORE.
 unfoldable pub move_plan : Program → Memory → Operation → (i b : ℕ) → Plan
-move_plan program m op i b = cond (out_of_bounds m op b) (stop_plan 32 i) (next_plan op i b (value_moved program m op b))
+move_plan program m op i b = cond (out_of_bounds m op b) (stop_plan Bounds i) (next_plan op i b (value_moved program m op b))
 
 -- BRANCH, CBRANCH and CALL.
 unfoldable pub branch_plan : Operation → (i b : ℕ) → Plan
@@ -54,7 +79,7 @@ branch_plan op i b = cond (exits op b) (exit_plan op i 0 b) (next_plan op i b 0)
 -- All others.
 unfoldable pub data_plan : Operation → (i a b : ℕ) → Plan
 data_plan op i a b =
-    cond (divides_by_zero op b) (stop_plan 33 i) (cond (exits op b) (exit_plan op i a b) (next_plan op i b (value_computed op a b)))
+    cond (divides_by_zero op b) (stop_plan Zero i) (cond (exits op b) (exit_plan op i a b) (next_plan op i b (value_computed op a b)))
 
 -- ---- what the code relies on, by the rules of well-formed operations
 

@@ -1,7 +1,7 @@
 // What an operation is to do, from shared slices and numbers alone: opcode dispatch, BOUNDS and ZERO.
 #![tactic(auto)]
 
-ghost use Rattle.std.specs.Prelude.{◌≡◌, ◌+◌, ◌*◌, ◌<◌, ◌≤◌, true, length, if◌then◌else◌, ◌==◌, nat_lt};
+ghost use Rattle.std.specs.Prelude.{◌≡◌, ◌+◌, ◌*◌, ◌<◌, ◌≤◌, true, length, if◌then◌else◌, nat_lt, None};
 ghost use Rattle.operation.specs.Layout.{wordsize_of, words_per_operation, operation_count};
 ghost use Rattle.operation.specs.Rules.{accesses, branches};
 ghost use Rattle.validation.specs.Verdict.{most_operations, most_bytes, settings_in_range};
@@ -10,13 +10,13 @@ ghost use Rattle.machine.specs.Memory.{lengths_of, value_at};
 ghost use Rattle.machine.specs.Lent.{held};
 ghost use Rattle.machine.specs.Effect.{operation_at, byte_offset};
 ghost use Rattle.machine.specs.Conditions.{operand1};
-ghost use Rattle.run_plan.specs.Plans.{control, move_plan, branch_plan, data_plan, planned, Movable, Addressable, Branching, Computable};
+ghost use Rattle.run_plan.specs.Plans.{control, failure, class_of, move_plan, branch_plan, data_plan, planned, Movable, Addressable, Branching, Computable};
 ghost use Rattle.run_plan.specs.Valid.{Valid};
 
 use arithmetic::opcodes::{CBRANCH, FIRST_INTEGER, LOAD};
 use arithmetic::operands::is_division;
 use arithmetic::value;
-use integer::boolean::{both, flag, pick};
+use integer::boolean::pick;
 use operation::layout::{
     INPUT0, INPUT1, INPUT2, OUTPUT, RAM, Settings, Spaces, Varnode, absent, opcode_at, varnode_at,
     wordsize_of,
@@ -27,44 +27,51 @@ use run_memory::space::{are_bytes, lengths_of};
 use run_memory::varnode::value_at;
 use word::size::within;
 
-// stop: 0 goes on at `next`, 1 EXIT with `value`, 32 BOUNDS, 33 ZERO. due: a log word with this low part is to be written. The target,
-// which may be absent, gets the value. Numbers and a flag for speed: with Options of an Ending and of a log word, LOAD, STORE and branches
-// of the plain run took up to 5 more instructions each.
+// stop: EXIT with `value`, BOUNDS or ZERO; with none the run goes on at `next`. log: the low part of the log word that is to be written.
+// The target, which may be absent, gets the value.
 #[derive(Clone, Copy)]
 pub struct Plan {
-    pub stop: u64,
+    pub stop: Option<Ending>,
     pub next: usize,
-    pub due: bool,
-    pub low: u64,
+    pub log: Option<u64>,
     pub target: Varnode,
     pub value: u64,
 }
 
+impl Plan {
+    // BOUNDS or ZERO, which end the run before the operation counts.
+    pub fn failure(self) -> Option<Ending>
+        ensures { result ≡ failure self.stop }
+    {
+        match self.stop {
+            Some(Ending::Exit) => None,
+            stop => stop,
+        }
+    }
+}
+
 // A plan that writes nothing to memory.
-fn control(stop: u64, next: usize, due: bool, low: u64, value: u64) -> Plan
-    ensures { result ≡ control stop next due low value }
+fn control(stop: Option<Ending>, next: usize, log: Option<u64>, value: u64) -> Plan
+    ensures { result ≡ control stop next log value }
 {
-    let target = absent();
     Plan {
         stop,
         next,
-        due,
-        low,
-        target,
+        log,
+        target: absent(),
         value,
     }
 }
 
 // A plan that writes a value and goes on at the next operation.
-fn writes(i: usize, due: bool, low: u64, target: Varnode, value: u64) -> Plan
+fn writes(i: usize, log: Option<u64>, target: Varnode, value: u64) -> Plan
     requires { i < most_operations }
-    ensures { result ≡ record { stop = 0; next = i + 1; due = due; low = low; target = target; value = value } }
+    ensures { result ≡ record { stop = None; next = i + 1; log = log; target = target; value = value } }
 {
     Plan {
-        stop: 0,
+        stop: None,
         next: i + 1,
-        due,
-        low,
+        log,
         target,
         value,
     }
@@ -77,15 +84,15 @@ fn branch_at(list: &[u64], i: usize, condition: u64) -> Plan
 {
     let conditional = opcode_at(list, i) == CBRANCH;
     let input0 = varnode_at(list, i, INPUT0);
-    if both(conditional, condition == 0) {
-        return control(0, i + 1, true, 0, 0);
+    if conditional & (condition == 0) {
+        return control(None, i + 1, Some(0), 0);
     }
-    let low = flag(conditional);
+    let log = conditional.then_some(1);
     if input0.space == RAM {
-        return control(Ending::Exit as u64, i, conditional, low, input0.offset);
+        return control(Some(Ending::Exit), i, log, input0.offset);
     }
     let next = (i as u64).wrapping_add(input0.offset);
-    control(0, next as usize, conditional, low, 0)
+    control(None, next as usize, log, 0)
 }
 
 // All operations but LOAD, STORE, BRANCH, CBRANCH and CALL, on the values a of input0 and b of input1. The first test tells most
@@ -98,24 +105,17 @@ fn data_at(list: &[u64], i: usize, a: u64, b: u64) -> Plan
     let output = varnode_at(list, i, OUTPUT);
     if opcode < FIRST_INTEGER {
         if jumps(opcode) {
-            return control(Ending::Exit as u64, i, false, 0, a);
+            return control(Some(Ending::Exit), i, None, a);
         }
-        return writes(i, false, 0, output, a);
+        return writes(i, None, output, a);
     }
-    if both(is_division(opcode), b == 0) {
-        return control(Ending::Zero as u64, i, false, 0, 0);
+    if is_division(opcode) & (b == 0) {
+        return control(Some(Ending::Zero), i, None, 0);
     }
     let input0 = varnode_at(list, i, INPUT0);
     let input1 = varnode_at(list, i, INPUT1);
     let x = value(opcode, output.size, input0.size, input1.size, a, b);
-    writes(i, false, 0, output, x)
-}
-
-// One of two varnodes.
-fn choose(first: bool, a: Varnode, b: Varnode) -> Varnode
-    ensures { result ≡ (if first then a else b) }
-{
-    if first { a } else { b }
+    writes(i, None, output, x)
 }
 
 // The byte offset of a pointer into a space of `length` bytes. A pointer past the space counts as the space's length, which is past it
@@ -124,7 +124,7 @@ pub fn offset_in(settings: Settings, space: u64, length: u64, pointer: u64) -> u
     requires { (length ≤ most_bytes) × (wordsize_of settings.wordsizes space ≤ 8) }
     ensures { result ≡ (if nat_lt pointer length then pointer else length) * wordsize_of settings.wordsizes space }
 {
-    let near = pick(pointer < length, pointer, length);
+    let near = pointer.min(length);
     near * wordsize_of(settings.wordsizes, space)
 }
 
@@ -141,23 +141,23 @@ fn move_at(settings: Settings, list: &[u64], memory: Spaces<&[u8]>, i: usize, po
     let output = varnode_at(list, i, OUTPUT);
     let input0 = varnode_at(list, i, INPUT0);
     let input2 = varnode_at(list, i, INPUT2);
-    let moved = choose(loads, output, input2);
+    let moved = pick(loads, output, input2);
     let space = input0.offset;
     let lengths = lengths_of(memory);
     let length = length_of(lengths, space);
     let offset = offset_in(settings, space, length, pointer);
     if !within(offset, moved.size, length) {
-        return control(Ending::Bounds as u64, i, false, 0, 0);
+        return control(Some(Ending::Bounds), i, None, 0);
     }
     let pointee = Varnode {
         space,
         offset,
         size: moved.size,
     };
-    let from = choose(loads, pointee, input2);
+    let from = pick(loads, pointee, input2);
     let x = value_at(big, memory, from);
-    let to = choose(loads, output, pointee);
-    writes(i, true, offset, to, x)
+    let to = pick(loads, output, pointee);
+    writes(i, Some(offset), to, x)
 }
 
 // The plan of operation i. Input1 is read for every operation: it is the pointer, the condition or the second operand, and 0 if absent.
@@ -174,30 +174,37 @@ pub fn plan_at(settings: Settings, list: &[u64], memory: Spaces<&[u8]>, i: usize
     let opcode = opcode_at(list, i);
     let input1 = varnode_at(list, i, INPUT1);
     let b = value_at(big, memory, input1);
-    let class = class_of(opcode);
-    if class == 1 {
-        return move_at(settings, list, memory, i, b);
+    match class_of(opcode) {
+        Class::Access => move_at(settings, list, memory, i, b),
+        Class::Branch => branch_at(list, i, b),
+        Class::Data => {
+            let input0 = varnode_at(list, i, INPUT0);
+            let a = value_at(big, memory, input0);
+            data_at(list, i, a, b)
+        }
     }
-    if class == 2 {
-        return branch_at(list, i, b);
-    }
-    let input0 = varnode_at(list, i, INPUT0);
-    let a = value_at(big, memory, input0);
-    data_at(list, i, a, b)
 }
 
-// 1 for LOAD and STORE, 2 for BRANCH, CBRANCH and CALL, 0 for all others: one test tells most of them.
-fn class_of(opcode: u64) -> u64
-    ensures { ((result == 1) ≡ accesses opcode) × ((result == 2) ≡ branches opcode) }
+// LOAD and STORE; BRANCH, CBRANCH and CALL; all others.
+#[derive(Clone, Copy)]
+enum Class {
+    Access,
+    Branch,
+    Data,
+}
+
+// One test tells most opcodes.
+fn class_of(opcode: u64) -> Class
+    ensures { result ≡ class_of opcode }
 {
     if FIRST_INTEGER <= opcode {
-        return 0;
+        return Class::Data;
     }
     if accesses(opcode) {
-        return 1;
+        return Class::Access;
     }
     if branches(opcode) {
-        return 2;
+        return Class::Branch;
     }
-    0
+    Class::Data
 }

@@ -8,6 +8,7 @@ use borrow.Author.Tests.{eqb-true, eqb-false, ne_eqb, ltb-true, ltb-false}
 use lib.Dec.{eqb, ltb}
 use lib.ListN.{length, set, drop}
 use lib.Seq.{sets, length-sets, drop-set-lt}
+use Rattle.std.specs.Prelude.{is_some}
 use Rattle.word.proofs.Sums.{tabulate-length}
 use Rattle.word.proofs.Laws.{bytes-length}
 use Rattle.word.proofs.Tests.{by_cond}
@@ -24,7 +25,7 @@ use Rattle.speculation.specs.Speculation.{journal_words}
 use Rattle.run_memory.specs.Placed.{Placed}
 use Rattle.run_plan.specs.declared.Plan.{Plan}
 use Rattle.run_plan.specs.Valid.{Valid}
-use Rattle.run_plan.specs.Plans.{next_plan, planned}
+use Rattle.run_plan.specs.Plans.{failure, next_plan, planned}
 use Rattle.run_plan.proofs.Steps.{applied, step_leak, step_applied}
 use Rattle.run_execution.proofs.Running.{run_end}
 use Rattle.run_labelled.proofs.Marking.{plan_inside, plan_next}
@@ -74,9 +75,9 @@ module _ (program : Program) (at : Position) (labels m : Memory) where
     applied_leaves : at.index < operation_count program.list → Left (applied program P at labels (labels_after (big_endian program.settings) labels op b) m)
     unfolding applied continued run ended advanced labels_after exact_labels next_plan
     applied_leaves inside =
-        by_cond Left (ltb 1 P.stop) _ _ (λ e. same refl refl)
-        (λ es. by_cond Left (P.due && eqb at.room 0) _ _ (λ e. same refl refl)
-        (λ ef. by_cond Left (eqb P.stop 1) _ _ (λ e. same refl refl)
+        by_cond Left (is_some (failure P.stop)) _ _ (λ e. same refl refl)
+        (λ es. by_cond Left (is_some P.log && eqb at.room 0) _ _ (λ e. same refl refl)
+        (λ ef. by_cond Left (is_some P.stop) _ _ (λ e. same refl refl)
         (λ ex. let next : P.target ≡ destination_bytes op b = ap (λ (p : Plan). p.target) (plan_next program m op at.index a b es ex) in
         let there : target_before program m at.index ≡ destination_bytes op b = target_is inside (plan_inside program m op at.index a b es) in
         rw (there, next) (wrote _ _ (tabulate-length _ _) (bytes-length (big_endian program.settings) _ _) refl refl refl))))

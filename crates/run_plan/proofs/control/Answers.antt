@@ -5,4 +5,4 @@ use Rattle.run_plan.proofs.control.Goals as goal
 
 pub returns : goal.returns
 unfolding control
-returns c = rw c.absent-target.ensures refl
+returns c = rw c.absent.ensures refl

@@ -14,23 +14,23 @@ returns-then-opcode-lt-FIRST_INTEGER c =
     code_copies _ _ _ _ c.opcode_at-opcode.ensures c.requires.2 _ c.jumps.ensures c.if-opcode-lt-FIRST_INTEGER.true c.if-jumps.false
     _ _ _ c.varnode_at-output.ensures c.writes.ensures
 
-pub returns-then-both : goal.returns-then-both
+pub returns-then-is_division-b : goal.returns-then-is_division-b
 unfolding operation_at
-returns-then-both c =
+returns-then-is_division-b c =
     code_by_zero _ _ _ _ c.opcode_at-opcode.ensures c.requires.2 c.if-opcode-lt-FIRST_INTEGER.false
-    _ _ c.is_division.ensures c.both.ensures _ _ c.if-both.true c.control-then-both.ensures
+    _ c.is_division.ensures _ _ c.if-is_division-b.true c.control-then-is_division-b.ensures
 
 pub value-x-requires : goal.value-x-requires
 unfolding operation_at
 value-x-requires c =
     may_compute _ _ _ _ c.opcode_at-opcode.ensures c.requires.2 c.if-opcode-lt-FIRST_INTEGER.false
-    _ _ c.is_division.ensures c.both.ensures c.if-both.false
+    _ c.is_division.ensures c.if-is_division-b.false
     _ _ _ c.varnode_at-output.ensures c.varnode_at-input0.ensures c.varnode_at-input1.ensures
 
 pub returns : goal.returns
 unfolding operation_at
 returns c =
     code_computes _ _ _ _ c.opcode_at-opcode.ensures c.requires.2 c.if-opcode-lt-FIRST_INTEGER.false
-    _ _ c.is_division.ensures c.both.ensures c.if-both.false
+    _ c.is_division.ensures c.if-is_division-b.false
     _ _ _ c.varnode_at-output.ensures c.varnode_at-input0.ensures c.varnode_at-input1.ensures
     _ _ _ c.value-x.ensures c.writes-2.ensures

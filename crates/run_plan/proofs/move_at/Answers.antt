@@ -24,9 +24,9 @@ returns-then-not-within c =
     let input0 = c.varnode_at-input0.ensures in
     let extent = c.length_of-length.ensures ∙ ap (λ (l : Lengths). length_of l c.varnode_at-input0.result.offset) c.lengths_of-lengths.ensures in
     let fits = product_fits _ _ _ c.requires.3 _ _ _ _ _ c.opcode_at-loads.ensures c.varnode_at-output.ensures
-    input0 c.varnode_at-input2.ensures c.choose-moved.ensures _ _ _ extent c.offset_in-offset.ensures in
+    input0 c.varnode_at-input2.ensures c.pick-moved.ensures _ _ _ extent c.offset_in-offset.ensures in
     code_outside _ _ _ _ _ _ _ _ c.opcode_at-loads.ensures c.varnode_at-output.ensures
-    input0 c.varnode_at-input2.ensures c.choose-moved.ensures c.requires.2 _ extent _ (c.within.ensures ∙ fits)
+    input0 c.varnode_at-input2.ensures c.pick-moved.ensures c.requires.2 _ extent _ (c.within.ensures ∙ fits)
     (program_of c.args.settings _) _ _ (ap not c.if-not-within.true) c.control.ensures
 
 pub value_at-x-requires : goal.value_at-x-requires
@@ -34,8 +34,8 @@ unfolding operation_at
 value_at-x-requires c =
     let extent = c.length_of-length.ensures ∙ ap (λ (l : Lengths). length_of l c.varnode_at-input0.result.offset) c.lengths_of-lengths.ensures in
     may_read _ _ _ _ _ _ _ _ c.opcode_at-loads.ensures c.varnode_at-output.ensures
-    c.varnode_at-input0.ensures c.varnode_at-input2.ensures c.choose-moved.ensures c.requires.2
-    _ extent _ c.within.ensures (ap not c.if-not-within.false) _ c.choose-from.ensures
+    c.varnode_at-input0.ensures c.varnode_at-input2.ensures c.pick-moved.ensures c.requires.2
+    _ extent _ c.within.ensures (ap not c.if-not-within.false) _ c.pick-from.ensures
 
 pub returns : goal.returns
 unfolding operation_at
@@ -44,10 +44,10 @@ returns c =
     let program = program_of c.args.settings _ in
     let extent = c.length_of-length.ensures ∙ ap (λ (l : Lengths). length_of l c.varnode_at-input0.result.offset) c.lengths_of-lengths.ensures in
     let is = product_is _ _ _ c.requires.3 _ _ _ _ _ c.opcode_at-loads.ensures c.varnode_at-output.ensures
-    input0 c.varnode_at-input2.ensures c.choose-moved.ensures _ _ _ extent c.offset_in-offset.ensures
+    input0 c.varnode_at-input2.ensures c.pick-moved.ensures _ _ _ extent c.offset_in-offset.ensures
     (sym c.within.ensures ∙ c.if-not-within.false) in
     code_moves _ _ _ _ _ _ _ _ c.opcode_at-loads.ensures c.varnode_at-output.ensures
-    input0 c.varnode_at-input2.ensures c.choose-moved.ensures c.requires.2 _ extent _ c.within.ensures
-    (ap not c.if-not-within.false) _ c.choose-from.ensures program _ _ _
-    (c.value_at-x.ensures ∙ value_read _ _ _) _ c.choose-to.ensures c.writes.ensures
+    input0 c.varnode_at-input2.ensures c.pick-moved.ensures c.requires.2 _ extent _ c.within.ensures
+    (ap not c.if-not-within.false) _ c.pick-from.ensures program _ _ _
+    (c.value_at-x.ensures ∙ value_read _ _ _) _ c.pick-to.ensures c.writes.ensures
     ∙ ap (move_plan program _ _ _) is
