@@ -25,7 +25,8 @@ use Rattle.machine.proofs.Kept.{written_lengths}
 use Rattle.run_memory.specs.Placed.{Placed}
 use Rattle.run_plan.specs.declared.Plan.{Plan}
 use Rattle.run_plan.specs.Valid.{Valid}
-use Rattle.run_plan.specs.Plans.{number_of, failure, planned}
+use Rattle.operation.specs.Numbers.{ending_number}
+use Rattle.run_plan.specs.Plans.{failure, planned}
 use Rattle.run_plan.proofs.Steps.{words_of, applied, step_plain}
 use Rattle.run_plan.proofs.Bounds.{next_within, target_writable, low_small}
 use Rattle.run_plan.proofs.Places.{valid_with, index_small}
@@ -186,9 +187,9 @@ module _ (program : Program) (budget start from : ℕ) (log₀ : List ℕ) (m₀
       unfolding run position
       run_step = rw (fuel, step_plain program (position i k executed log) m g.words bytes still before_end, ← ep) refl
 
-      pub at_stop : (why : Ending) → failure p.stop ≡ Some why → Finally (plain_outcome (record { ending = number_of why; index = i; executed = executed; logged = k; value = 0 }) m log)
+      pub at_stop : (why : Ending) → failure p.stop ≡ Some why → Finally (plain_outcome (record { ending = ending_number why; index = i; executed = executed; logged = k; value = 0 }) m log)
       unfolding applied continued
-      at_stop why h = finally (number_of why) 0 (run_step ∙ rw h refl)
+      at_stop why h = finally (ending_number why) 0 (run_step ∙ rw h refl)
 
       pub may_log : (i < most_operations) × (unwrap_or p.log 0 ≤ most_bytes)
       may_log = (index_small (lengths_of m) program.list still i before_end, rw ep (low_small program m i still before_end _ _))

@@ -10,7 +10,6 @@ ghost use Rattle.machine.specs.Lent.{lent, SameBuffers};
 ghost use Rattle.machine.specs.Run.{log_word, run};
 ghost use Rattle.machine.specs.Calls.{unlabelled, outcome_of, plain_outcome};
 ghost use Rattle.run_plan.specs.Valid.{Valid};
-ghost use Rattle.run_plan.specs.Plans.{number_of};
 ghost use Rattle.run_execution.specs.Loops.{position};
 
 use operation::layout::{Settings, Spaces, operation_count};
@@ -52,7 +51,7 @@ pub fn run_from(
         let full = p.log.is_some() & (log.len() <= k);
         if p.stop.is_some() {
             if let Some(why) = p.failure() {
-                return run_report(number(why), i, executed, k, 0);
+                return run_report(why.number(), i, executed, k, 0);
             }
             if full {
                 return run_report(Ending::Log as u64, i, executed, k, 0);
@@ -68,13 +67,6 @@ pub fn run_from(
         write(big, memory, p.target, p.value);
         i = p.next;
     }
-}
-
-// As a function, the number adds no cases to the proof of its caller.
-fn number(ending: Ending) -> u64
-    ensures { result ≡ number_of ending }
-{
-    ending as u64
 }
 
 // A log word is its operation's index times this, and a low part.

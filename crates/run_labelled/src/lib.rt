@@ -105,16 +105,7 @@ fn run_turns(
     let mut executed: u64 = 0;
     loop {
         let done = step_at(
-            labelled,
-            settings,
-            list,
-            memory,
-            labels,
-            counts,
-            log,
-            i,
-            k,
-            most,
+            labelled, settings, list, memory, labels, counts, log, i, k, most,
         );
         i = done.index as usize;
         k = done.logged as usize;
@@ -130,11 +121,7 @@ fn run_turns(
 pub fn turn(labelled: bool, budget: u64) -> u64
     ensures { result ≡ turn_of labelled budget }
 {
-    if labelled & (0 < budget) {
-        1
-    } else {
-        budget
-    }
+    if labelled & (0 < budget) { 1 } else { budget }
 }
 
 // One turn, of at most one operation if it is labelled: LEAK, the operations, their labels.
@@ -161,28 +148,13 @@ fn step_at(
 {
     // What the buffers hold are bytes, as `reading` says.
     let _bytes = reading(memory);
-    let leak = leaks_within(
-        labelled,
-        list,
-        labels,
-        i,
-        most,
-    );
+    let leak = leaks_within(labelled, list, labels, i, most);
     if leak {
         return run_report(Ending::Leak as u64, i, 0, k, 0);
     }
     let done = run_from(settings, list, memory, log, i, k, most);
     let completed = completes(labelled, done.executed, done.ending);
-    mark_after(
-        completed,
-        settings,
-        list,
-        labels,
-        counts,
-        log,
-        i,
-        k,
-    );
+    mark_after(completed, settings, list, labels, counts, log, i, k);
     done
 }
 

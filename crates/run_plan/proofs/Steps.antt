@@ -18,7 +18,8 @@ use Rattle.machine.proofs.Plain.{nothing_secret, nothing_written}
 use Rattle.machine.proofs.Conditions.{formed, few_operations, meets, one_secret}
 use Rattle.run_plan.specs.declared.Plan.{Plan}
 use Rattle.run_plan.specs.Valid.{Valid}
-use Rattle.run_plan.specs.Plans.{number_of, failure, control, stop_plan, log_due, exit_plan, next_plan, planned}
+use Rattle.operation.specs.Numbers.{ending_number}
+use Rattle.run_plan.specs.Plans.{failure, control, stop_plan, log_due, exit_plan, next_plan, planned}
 
 -- The log word of a plan.
 unfoldable pub words_of : Plan → (i : ℕ) → List ℕ
@@ -27,7 +28,7 @@ words_of p i = cond (is_some p.log) (log_word i (unwrap_or p.log 0) ∷ []) []
 -- The number of an ending, if there is one.
 abbrev pub number_in : Option Ending → ℕ
 number_in None = 0
-number_in (Some why) = number_of why
+number_in (Some why) = ending_number why
 
 -- A plan carried out.
 unfoldable pub applied : Program → Plan → Position → (labels marked memory : Memory) → Stepped

@@ -4,7 +4,7 @@ use Rattle.std.specs.Prelude.{◌≡◌, ℕ, ◌<◌, ◌≤◌, true, false, c
 use Rattle.arithmetic.specs.Operands.{divides, Operands}
 use Rattle.operation.specs.declared.layout.Settings.{Settings}
 use Rattle.operation.specs.declared.report.Ending.{Ending}
-use Rattle.operation.specs.declared.report.Ending.TheVariants.{End, Exit, Budget, Leak, Bounds, Zero, Log, LeakAhead}
+use Rattle.operation.specs.declared.report.Ending.TheVariants.{Exit, Bounds, Zero}
 use Rattle.operation.specs.Rules.{accesses, branches, jumps}
 use Rattle.validation.specs.Verdict.{most_bytes}
 use Rattle.machine.specs.Program.{Program}
@@ -16,17 +16,6 @@ use Rattle.run_memory.specs.Placed.{Placed}
 use Rattle.run_plan.specs.declared.Plan.{Plan}
 use Rattle.run_plan.specs.declared.Class.{Class}
 use Rattle.run_plan.specs.declared.Class.TheVariants.{Access, Branch, Data}
-
--- The number of an ending in a report.
-abbrev pub number_of : Ending → ℕ
-number_of End = 0
-number_of Exit = 1
-number_of Budget = 2
-number_of Leak = 31
-number_of Bounds = 32
-number_of Zero = 33
-number_of Log = 34
-number_of LeakAhead = 35
 
 -- What ends the run before the operation counts; EXIT ends it after.
 abbrev pub failure : Option Ending → Option Ending

@@ -54,24 +54,9 @@ pub fn open_window(
     // Counts are given back as they were, since they are words before and after.
     are_words(counts);
     let went = run_saved(
-        settings,
-        list,
-        memory,
-        labels,
-        counts,
-        log,
-        journal,
-        start,
-        from,
-        window,
+        settings, list, memory, labels, counts, log, journal, start, from, window,
     );
-    undo(
-        memory,
-        labels,
-        counts,
-        journal,
-        went.executed as usize,
-    );
+    undo(memory, labels, counts, journal, went.executed as usize);
     are_words(counts);
     mark_words(log, from, went.logged as usize);
     went
@@ -113,18 +98,7 @@ fn run_saved(
             i,
             executed as usize,
         );
-        let done = run_any(
-            true,
-            settings,
-            list,
-            memory,
-            labels,
-            counts,
-            log,
-            i,
-            k,
-            1,
-        );
+        let done = run_any(true, settings, list, memory, labels, counts, log, i, k, 1);
         i = done.index as usize;
         k = done.logged as usize;
         executed = executed + done.executed;

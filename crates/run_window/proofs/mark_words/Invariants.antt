@@ -4,5 +4,3 @@ use Rattle.run_window.proofs.mark_words.Given as goal
 
 abbrev pub invariant-loop-k : goal.invariant-loop-k
 invariant-loop-k l = Marking l.initial.log l.from l.to l.log l.k
-
-
