@@ -10,7 +10,6 @@ ghost use Rattle.show.specs.Show.{view, shown};
 
 use operation::layout::{Lengths, Settings, Spaces, Varnode};
 use operation::report::Report;
-
 pub use runs::{count_secrets, labelled_run, run, speculative_run};
 
 // The verdict on a list of operations, for spaces of these lengths: the papers' judge.

@@ -20,7 +20,8 @@ ghost use Rattle.run_journal.specs.Journal.{target_before, entry_of, entry_words
 
 use arithmetic::opcodes::STORE;
 use operation::layout::{
-    INPUT0, INPUT1, INPUT2, OUTPUT, Settings, Spaces, Varnode, absent, described_by, opcode_at, operation_count, varnode_at,
+    INPUT0, INPUT1, INPUT2, OUTPUT, Settings, Spaces, Varnode, absent, described_by, opcode_at,
+    operation_count, varnode_at,
 };
 use operation::rules::length_of;
 use run_memory::labels::mark;

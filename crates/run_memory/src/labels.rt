@@ -42,12 +42,7 @@ pub fn has_secret(labels: Spaces<&[u8]>, v: Varnode) -> bool
 // Writes labels to a varnode, as the number that they make in little order, and moves the counts; to an absent one, nothing. Most operations write
 // the labels that are there, so that is looked at first. It is compiled into its two callers, the run and the undoing.
 #[inline(always)]
-pub fn mark(
-    labels: &mut Spaces<&mut [u8]>,
-    counts: &mut Spaces<&mut [u64]>,
-    v: Varnode,
-    word: u64,
-)
+pub fn mark(labels: &mut Spaces<&mut [u8]>, counts: &mut Spaces<&mut [u64]>, v: Varnode, word: u64)
     requires placed { Placed (lent labels.old) v }
     requires counts { counts_fit (lengths_of (lent labels.old)) (lengths_of (lent counts.old)) ≡ true }
     ensures same { SameBuffers labels.old labels.new × SameBuffers counts.old counts.new }

@@ -72,10 +72,8 @@ pub fn are_words(counts: &Spaces<&mut [u64]>)
 
 fn slices_are_bytes(unique: &[u8], register: &[u8], ram: &[u8])
     ensures { OfBytes (spaces unique.now register.now ram.now) }
-{
-}
+{}
 
 fn slices_are_words(unique: &[u64], register: &[u64], ram: &[u64])
     ensures { WordsOf (spaces unique.now register.now ram.now) }
-{
-}
+{}

@@ -55,17 +55,7 @@ pub fn speculate_from(
     let mut executed: u64 = 0;
     loop {
         let done = speculate_at(
-            settings,
-            list,
-            memory,
-            labels,
-            counts,
-            log,
-            journal,
-            i,
-            k,
-            most,
-            window,
+            settings, list, memory, labels, counts, log, journal, i, k, most, window,
         );
         i = done.index as usize;
         k = done.logged as usize;
@@ -103,16 +93,7 @@ fn speculate_at(
     // What the buffers hold are bytes, as `reading` says.
     let _bytes = reading(memory);
     let done = run_any(
-        true,
-        settings,
-        list,
-        memory,
-        labels,
-        counts,
-        log,
-        i,
-        k,
-        most,
+        true, settings, list, memory, labels, counts, log, i, k, most,
     );
     if !opens_window(list, i, window, done) {
         return done;

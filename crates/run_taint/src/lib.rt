@@ -18,18 +18,16 @@ use arithmetic::opcodes::{
 };
 use arithmetic::operands::is_division;
 use integer::unsigned::{piece, subpiece};
-use operation::layout::{INPUT0, INPUT1, INPUT2, OUTPUT, Spaces, Varnode, absent, opcode_at, varnode_at};
+use operation::layout::{
+    INPUT0, INPUT1, INPUT2, OUTPUT, Spaces, Varnode, absent, opcode_at, varnode_at,
+};
 use operation::rules::{accesses, jumps};
 use run_memory::labels::{each_label, has_secret, labels_at, ordered};
 use run_memory::space::are_bytes;
 
 // LEAK: a byte that must be public is secret. Of a division both operands must be public, of any other integer operation none, and below them
 // at most one varnode.
-pub fn leaks_at(
-    list: &[u64],
-    labels: Spaces<&[u8]>,
-    i: usize,
-) -> bool
+pub fn leaks_at(list: &[u64], labels: Spaces<&[u8]>, i: usize) -> bool
     requires { Valid (lengths_of (held labels)) list.now × (i < operation_count list.now) }
     ensures { result ≡ leaks (held labels.entry) (operation_at list.now i) }
 {
@@ -90,13 +88,7 @@ pub fn target_at(list: &[u64], i: usize, offset: u64) -> Varnode
 // The labels that operation i writes to its target, as the number that they make in little order. COPY, LOAD and STORE, which are all that write
 // below the integer operations, keep bytes in their places, in either order; PIECE, SUBPIECE, INT_ZEXT and INT_SEXT move them by significance; of any
 // other operation all bytes become secret if a byte of an input is.
-pub fn labels_written(
-    big: bool,
-    list: &[u64],
-    labels: Spaces<&[u8]>,
-    i: usize,
-    offset: u64,
-) -> u64
+pub fn labels_written(big: bool, list: &[u64], labels: Spaces<&[u8]>, i: usize, offset: u64) -> u64
     requires { Readable (held labels) list.now i offset }
     ensures { LabelWord big (held labels.entry) (operation_at list.now i) offset result }
 {
@@ -142,12 +134,7 @@ fn moves(opcode: u64) -> bool
 
 // The labels that these four write, as the number that they make by significance; what it has above the output is free. The value goes the
 // same way, but for the fill of INT_SEXT: a label is no sign.
-fn moved_word(
-    big: bool,
-    list: &[u64],
-    labels: Spaces<&[u8]>,
-    i: usize,
-) -> u64
+fn moved_word(big: bool, list: &[u64], labels: Spaces<&[u8]>, i: usize) -> u64
     requires { MovesBytes (held labels) list.now i }
     ensures { MovedWord big (held labels.entry) (operation_at list.now i) result }
 {
@@ -157,11 +144,7 @@ fn moved_word(
     let input1 = varnode_at(list, i, INPUT1);
     let a = labels_of(big, labels, input0);
     match opcode {
-        PIECE => piece(
-            input1.size,
-            a,
-            labels_of(big, labels, input1),
-        ),
+        PIECE => piece(input1.size, a, labels_of(big, labels, input1)),
         SUBPIECE => subpiece(output.size, a, input1.offset),
         INT_SEXT => extended_word(input0.size, a),
         _ => a,

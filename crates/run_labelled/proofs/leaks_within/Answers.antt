@@ -1,5 +1,5 @@
 -- `run_labelled::leaks_within` meets its contract.
-use Rattle.std.proofs.Common.{rules, arith}
+use Rattle.std.proofs.Common.{arith}
 use Rattle.std.proofs.lemmas.Grind.{common_steps}
 use Rattle.run_labelled.proofs.leaks_within.Goals as goal
 

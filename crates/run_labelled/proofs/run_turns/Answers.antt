@@ -1,6 +1,5 @@
 -- `run_labelled::run_turns` meets its contract.
 use native.Mathlib.Omega.{arith}
-use mathlib.Core.Path.{refl, sym, ◌∙◌}
 use Rattle.machine.proofs.Runs.{run_laws}
 use Rattle.run_memory.proofs.Spaces.{same_still}
 use Rattle.run_labelled.proofs.Turning.{may_turn, within, may_count, counts_on, at_ended, fewer, at_next}

@@ -1,6 +1,6 @@
 -- `run_taint::leaks_at` meets its contract.
 use native.Mathlib.Omega.{arith}
-use mathlib.Core.Path.{sym, ◌∙◌}
+use mathlib.Core.Path.{sym}
 use Rattle.arithmetic.specs.Operands.{divides}
 use Rattle.run_plan.proofs.Opcodes.{of_opcode}
 use Rattle.run_plan.proofs.Places.{in_words}

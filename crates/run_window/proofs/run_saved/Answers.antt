@@ -1,6 +1,5 @@
 -- `run_window::run_saved` meets its contract.
 use native.Mathlib.Omega.{arith}
-use mathlib.Core.Path.{sym, ◌∙◌}
 use Rattle.machine.specs.Program.{program_of}
 use Rattle.machine.proofs.MovedCounts.{moved_spaces_none}
 use Rattle.machine.proofs.Runs.{run_laws}

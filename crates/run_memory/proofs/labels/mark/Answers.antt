@@ -3,7 +3,6 @@ use mathlib.Core.Bool.{false}
 use lib.Dec.{lit≤}
 use Rattle.word.specs.Word.{value_of}
 use Rattle.machine.specs.Memory.{Memory, space_of, with_space, bytes_at}
-use Rattle.run_memory.proofs.Spaces.{of_bytes}
 use Rattle.run_memory.proofs.Relabelling.{marked_same, marked_nowhere, marked_in, may_relabel}
 use Rattle.run_memory.proofs.labels.mark.Goals as goal
 
