@@ -51,7 +51,8 @@ pub enum Opcode {
     BoolOr,
 }
 
-// Each opcode as the number that a list of operations holds, for patterns and tests.
+// Each opcode as the number that a list of operations holds, for patterns and tests: code that runs asks by these, since a conversion to the
+// enum would be one more test of each operation.
 pub const COPY: u64 = Opcode::Copy as u64;
 
 pub const LOAD: u64 = Opcode::Load as u64;
@@ -136,6 +137,15 @@ pub const BOOL_AND: u64 = Opcode::BoolAnd as u64;
 
 pub const BOOL_OR: u64 = Opcode::BoolOr as u64;
 
+// The places of an operation's varnodes.
+pub const OUTPUT: u8 = 0;
+
+pub const INPUT0: u8 = 1;
+
+pub const INPUT1: u8 = 2;
+
+pub const INPUT2: u8 = 3;
+
 // The inputs that an operation can have.
 pub const MOST_INPUTS: u8 = 3;
 
@@ -186,10 +196,10 @@ pub fn has_place(opcode: u64, place: u8) -> bool
     ensures { result ≡ has_place opcode place }
 {
     match place {
-        0 => has_bit(WITH_OUTPUT, opcode),
-        1 => has_bit(WITH_INPUT0, opcode),
-        2 => has_bit(WITH_INPUT1, opcode),
-        3 => has_bit(WITH_INPUT2, opcode),
+        OUTPUT => has_bit(WITH_OUTPUT, opcode),
+        INPUT0 => has_bit(WITH_INPUT0, opcode),
+        INPUT1 => has_bit(WITH_INPUT1, opcode),
+        INPUT2 => has_bit(WITH_INPUT2, opcode),
         _ => false,
     }
 }

@@ -95,6 +95,7 @@ fn frame_by(kind: u64, s: &[u8]) -> Option<Frame>
     ensures { result ≡ frame_by kind s.now }
 {
     match kind {
+        // The kinds by number: a line holds them, and they are read here alone.
         1 => opening_of(s),
         2 => bytes_frame_of(Target::Memory, s),
         3 => bytes_frame_of(Target::Labels, s),

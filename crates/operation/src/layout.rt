@@ -5,6 +5,7 @@ ghost use Rattle.arithmetic.specs.Opcodes.{most_inputs};
 ghost use Rattle.operation.specs.Layout.{by_space, wordsize_of, words_per_operation, operation_count, word_at, head_byte, spare_at, opcode_at, absent, described_by, varnode_at};
 
 use arithmetic::opcodes::MOST_INPUTS;
+pub use arithmetic::opcodes::{INPUT0, INPUT1, INPUT2, OUTPUT};
 
 // Words to an operation: the head, then the offset of the output and those of the inputs.
 pub const WORDS_PER_OPERATION: usize = MOST_INPUTS as usize + 2;
@@ -12,7 +13,9 @@ pub const WORDS_PER_OPERATION: usize = MOST_INPUTS as usize + 2;
 // Bytes of the head that are used: the opcode, then the descriptor of the output and those of the inputs.
 const HEAD_BYTES: u64 = MOST_INPUTS as u64 + 2;
 
-// Numbers of the address spaces. A varnode of space 0 is absent, and there is no other number.
+// Numbers of the address spaces. They stay numbers: lists and the C interface hold them, and definitions and theorems speak of them.
+pub const ABSENT: u64 = 0;
+
 pub const CONSTANT: u64 = 1;
 
 pub const UNIQUE: u64 = 2;
@@ -42,7 +45,7 @@ pub type Lengths = Spaces<u64>;
 // How many bytes a pointer into each space counts as one.
 pub type Wordsizes = Spaces<u64>;
 
-// Byte order, 0 little or 1 big, address size and wordsizes.
+// Byte order, 0 little or 1 big, address size and wordsizes. Numbers, as they are lent: a call refuses what is out of range.
 #[derive(Clone, Copy)]
 pub struct Settings {
     pub order: u64,
@@ -128,7 +131,7 @@ pub fn absent() -> Varnode
     ensures { result ≡ absent }
 {
     Varnode {
-        space: 0,
+        space: ABSENT,
         offset: 0,
         size: 0,
     }
@@ -145,15 +148,6 @@ pub fn described_by(descriptor: u64, offset: u64) -> Varnode
         size: descriptor % 16,
     }
 }
-
-// The places of an operation's varnodes, which `varnode_at` counts.
-pub const OUTPUT: u8 = 0;
-
-pub const INPUT0: u8 = 1;
-
-pub const INPUT1: u8 = 2;
-
-pub const INPUT2: u8 = 3;
 
 // The varnode at a place of operation i.
 #[tactic(auto, unfolding(crate::specs::Layout::varnode_at, crate::specs::Layout::descriptor_at, crate::specs::Layout::offset_at))]

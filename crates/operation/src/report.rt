@@ -58,6 +58,7 @@ impl Refusal {
 // Numbers of a report.
 pub const REPORT_NUMBERS: usize = 5;
 
+// Numbers: they are the words of a C report, and definitions and theorems speak of them.
 #[derive(Clone, Copy)]
 pub struct Report {
     pub ending: u64,

@@ -5,7 +5,8 @@ ghost use Rattle.operation.specs.Rules.{breaks_head, accesses, branches, jumps, 
 ghost use Rattle.operation.specs.Rules.{target_outside, breaks_target};
 
 use super::layout::{
-    CONSTANT, INPUT0, INPUT1, Lengths, OUTPUT, RAM, UNIQUE, Varnode, by_space, opcode_at, spare_at,
+    ABSENT, CONSTANT, INPUT0, INPUT1, Lengths, OUTPUT, RAM, UNIQUE, Varnode, by_space, opcode_at,
+    spare_at,
 };
 use arithmetic::opcodes::{
     BRANCH, BRANCHIND, CALL, CALLIND, CBRANCH, LAST_OPCODE, LOAD, RETURN, STORE, SUBPIECE,
@@ -102,7 +103,7 @@ fn is_destination(v: Varnode) -> bool
     matches!(v.space, CONSTANT | RAM)
 }
 
-// The length of a space, by its number; no other number has bytes.
+// The length of a space, by its number; no other number has bytes. It stands beside `wordsize_of`, since each is the definition of its name.
 pub fn length_of(lengths: Lengths, space: u64) -> u64
     ensures { result ≡ length_of lengths space }
 {
@@ -115,7 +116,7 @@ fn beyond(lengths: Lengths, v: Varnode) -> bool
     ensures { result ≡ beyond lengths v }
 {
     match v.space {
-        0 => false,
+        ABSENT => false,
         CONSTANT => !holds(v.size, v.offset),
         space => !within(v.offset, v.size, length_of(lengths, space)),
     }

@@ -20,7 +20,7 @@ ghost use Rattle.run_plan.specs.Valid.{Valid};
 ghost use Rattle.run_execution.specs.Loops.{position};
 ghost use Rattle.run_labelled.specs.Turns.{Fitting, Countable, turn_of, completes, offset_logged, Markable};
 
-use operation::layout::{Settings, Spaces, opcode_at, operation_count};
+use operation::layout::{ABSENT, Settings, Spaces, opcode_at, operation_count};
 use operation::report::{Ending, Report, run_report};
 use operation::rules::accesses;
 use run_execution::{INDEX_WEIGHT, run_from};
@@ -28,7 +28,8 @@ use run_memory::labels::mark;
 use run_memory::space::reading;
 use run_taint::{labels_written, leaks_at, target_at};
 
-// A run from operation `start`, with the first `from` words of the log written before. The buffers are lent on from locals: so the
+// A run from operation `start`, with the first `from` words of the log written before. `labelled` is a flag and no step that is passed in, since
+// the contract says by it which labels and counts there are. The buffers are lent on from locals: so the
 // compiler, which has the turns here, keeps pointers and lengths in registers, and need not read them behind a reference at each operation.
 pub fn run_any(
     labelled: bool,
@@ -209,7 +210,7 @@ fn mark_after(
     if completed {
         let offset = logged_offset(list, log, i, k);
         let target = target_at(list, i, offset);
-        if target.space != 0 {
+        if target.space != ABSENT {
             let big = settings.order == 1;
             let word = labels_written(big, list, reading(labels), i, offset);
             mark(labels, counts, target, word);

@@ -82,7 +82,7 @@ pub fn of_lengths(settings: usize, report: usize) -> Result<(), Refusal>
     Refusal::Length.unless((settings == SETTINGS_WORDS) & (REPORT_NUMBERS <= report))
 }
 
-// undrelvoa_count_secrets
+// undrelvoa_count_secrets. It and the next are alike, but each meets the definition of its own call.
 #[tactic(auto, unfolding(crate::specs::Faults::report_fault))]
 pub fn of_report(report: usize) -> Result<(), Refusal>
     ensures { answer_of result ≡ report_fault report }

@@ -17,7 +17,8 @@ pub fn gather(big: bool, s: &[u8], at: usize, size: usize) -> u64
     }
 }
 
-// The other sizes are below 8; without the remainder, which tells it so, the compiler prepares the walk for long parts.
+// The other sizes are below 8; without the remainder, which tells it so, the compiler prepares the walk for long parts. By `if`, four bytes
+// last: so the compiler asks for one, then for eight; by a `match` loops on single bytes took a tenth more instructions.
 #[inline(always)]
 fn gather_sized(big: bool, s: &[u8], at: usize, size: usize) -> u64
     requires { (size ≤ 8) × (at + size ≤ length s.now) }
