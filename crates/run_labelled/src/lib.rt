@@ -29,8 +29,8 @@ use run_memory::space::reading;
 use run_taint::{labels_written, leaks_at, target_at};
 
 // A run from operation `start`, with the first `from` words of the log written before. `labelled` is a flag and no step that is passed in, since
-// the contract says by it which labels and counts there are. The buffers are lent on from locals: so the
-// compiler, which has the turns here, keeps pointers and lengths in registers, and need not read them behind a reference at each operation.
+// the contract says by it which labels and counts there are. The buffers are lent on from locals: so the compiler, which has the turns here,
+// keeps pointers and lengths in registers, and need not read them behind a reference at each operation.
 pub fn run_any(
     labelled: bool,
     settings: Settings,
