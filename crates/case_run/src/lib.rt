@@ -3,7 +3,7 @@
 
 ghost use Rattle.std.specs.Prelude.{◌+◌, ◌≤◌, replicate};
 ghost use Rattle.machine.specs.Memory.{lengths_of};
-ghost use Rattle.machine.specs.Lent.{lent};
+ghost use Rattle.machine.specs.Lent.{lent, SameBuffers};
 ghost use Rattle.machine.specs.Calls.{labelled_run};
 ghost use Rattle.arrayvec.specs.ArrayVec.{array_vec_len};
 ghost use Rattle.case_printing.specs.Appended.{Appended};
@@ -23,15 +23,16 @@ pub fn print_run<const N: usize>(
     settings: Settings,
     list: &[u64],
     budget: u32,
-    mut memory: Spaces<&mut [u8]>,
-    mut labels: Spaces<&mut [u8]>,
+    memory: &mut Spaces<&mut [u8]>,
+    labels: &mut Spaces<&mut [u8]>,
     out: &mut ArrayVec<u8, N>,
 )
-    requires fits { Fits (lengths_of (lent memory)) }
-    requires fits_2 { Fits (lengths_of (lent labels)) }
+    requires fits { Fits (lengths_of (lent memory.old)) }
+    requires fits_2 { Fits (lengths_of (lent labels.old)) }
     requires output_room_in_bounds { array_vec_len out.old + output_room ≤ N }
-    ensures { Appended out.old.items (outcome_text (labelled_run settings list.now start_index budget (replicate log_words 0)
-        (lent labels.entry) (lent memory.entry))) out.new.items }
+    ensures same { SameBuffers memory.old memory.new × SameBuffers labels.old labels.new }
+    ensures printed { Appended out.old.items (outcome_text (labelled_run settings list.now start_index budget (replicate log_words 0)
+        (lent labels.old) (lent memory.old))) out.new.items }
 {
     let mut counts: Spaces<&mut [u64]> = Spaces {
         unique: &mut [0; COUNTS_ROOM],
@@ -44,10 +45,10 @@ pub fn print_run<const N: usize>(
         list,
         START_INDEX,
         budget,
-        &mut memory,
-        &mut labels,
+        memory,
+        labels,
         &mut counts,
         &mut log,
     );
-    put_outcome(out, report, &log, reading(&memory), reading(&labels));
+    put_outcome(out, report, &log, reading(memory), reading(labels));
 }

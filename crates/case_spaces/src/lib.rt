@@ -28,8 +28,8 @@ pub fn run_case<const N: usize>(buffers: &Buffers, out: &mut ArrayVec<u8, N>)
         buffers.settings,
         buffers.words.as_slice(),
         buffers.budget,
-        used(&mut memory, buffers.lengths),
-        used(&mut labels, buffers.lengths),
+        &mut used(&mut memory, buffers.lengths),
+        &mut used(&mut labels, buffers.lengths),
         out,
     );
 }

@@ -11,7 +11,7 @@ put_outcome-requires g c =
     let marks = rw (← c.reading-2.ensures.same) at (still_fits ran.same.1 c.requires.fits_2) in
     (search rules, (l.0, (l.1, (bytes, (marks, c.requires.output_room_in_bounds)))))
 
-pub returns : goal.returns
-returns g c =
+pub returns-clause-printed : goal.returns-clause-printed
+returns-clause-printed g c =
     printed_as (as_labelled _ _ _ _ _ c.requires.fits c.labelled_run-report.ensures.promise)
     (rw (← c.reading.ensures.same, ← c.reading-2.ensures.same) c.put_outcome.ensures)
