@@ -1,7 +1,5 @@
 -- At the end of the text: what is printed is what the definition says of the text.
-use Rattle.std.proofs.Common.{ℕ, ◌≡◌, List, [], ◌∷◌, length, arith, sym, ap, ◌∙◌, refl, min, Bool, true, false, eqb}
-use Rattle.std.proofs.lemmas.Bool.{false≢true}
-use borrow.Author.Tests.{eqb-true}
+use Rattle.std.proofs.Common.{ℕ, ◌≡◌, List, [], ◌∷◌, length, arith, sym, ap, ◌∙◌, refl, min}
 use Rattle.case_printing.specs.Appended.{Appended}
 use Rattle.case_printing.specs.Outcome.{outcome_text}
 use Rattle.case_reader.specs.Case.{Case, Progress}
@@ -15,13 +13,6 @@ use Rattle.case_reader.specs.declared.stream.Reader.{Reader}
 use Rattle.case_reader.proofs.Lines.{held}
 use Rattle.case_run.specs.Run.{outcome}
 use Rattle.case_output.specs.Output.{bad_text, printed, printed_after, output_of}
-
--- what a test of the unfinished line says
-pub is_none : {n : ℕ} {t : Bool} → t ≡ eqb n 0 → t ≡ true → n ≡ 0
-is_none {n} e h = eqb-true n 0 (sym e ∙ h)
-
-pub is_some : {n : ℕ} {t : Bool} → t ≡ eqb n 0 → t ≡ false → n ≡ 0 → ⊥
-is_some e h z = false≢true (sym h ∙ e ∙ rw z)
 
 printed_whole : (n : ℕ) (c : Case) (q : List ℕ) {held : ℕ} → held ≡ min line_room (length q) → held ≡ 0 → printed q n (Progress.reading c) ≡ outcome_text (outcome c)
 unfolding printed
@@ -52,12 +43,12 @@ module _ (text : List ℕ) (r : Reader) (h : HasRead text r) where
     unfolding progress_in printed
     bad_printed e p = by (read_printed ∙ rw e) p
 
-    pub run-printed : {b : Buffers} → r.stage ≡ Reading b → length r.line.items ≡ 0 → Appended before (outcome_text (outcome (case_in b))) after
+    pub run-printed : {b : Buffers} → r.stage ≡ Reading b → r.line.used ≡ 0 → Appended before (outcome_text (outcome (case_in b))) after
         → Appended before (output_of text) after
     unfolding progress_in
     run-printed {b} e z p = by (read_printed ∙ rw e (printed_whole r.number (case_in b) (rest_of [] text) (held text r h) z)) p
 
-    pub rest_printed : {b : Buffers} → r.stage ≡ Reading b → (length r.line.items ≡ 0 → ⊥) → {k : ℕ} → k ≡ next_number r.number → Appended before (bad_text k) after
+    pub rest_printed : {b : Buffers} → r.stage ≡ Reading b → (r.line.used ≡ 0 → ⊥) → {k : ℕ} → k ≡ next_number r.number → Appended before (bad_text k) after
         → Appended before (output_of text) after
     unfolding progress_in
     rest_printed {b} e z k p = by (read_printed ∙ rw (e, k) (printed_rest r.number (case_in b) (rest_of [] text) (held text r h) z)) p

@@ -34,7 +34,7 @@ pub fn finish<const N: usize>(reader: &Reader, out: &mut ArrayVec<u8, N>)
     match &reader.stage {
         // Not `Nothing | Reading(_)`: in such an arm a proof does not know which it was.
         Stage::Nothing => put_bad(next_number(reader.number), out),
-        Stage::Reading(buffers) if reader.line.is_empty() => run_case(buffers, out),
+        Stage::Reading(buffers) if reader.line.used == 0 => run_case(buffers, out),
         Stage::Reading(_) => put_bad(next_number(reader.number), out),
         Stage::BadLine(number) => put_bad(*number, out),
     }

@@ -1,9 +1,10 @@
 -- What a line does to the buffers is what the definition says, frame by frame.
-use Rattle.std.proofs.Common.{ℕ, ◌+◌, ◌/◌, ◌≤◌, ◌<◌, ◌≡◌, true, false, None, Some, Result, Ok, Err, MatchResult, OnOk, OnErr, ◌↔◌, List, [], ◌++◌, length, refl, sym, ap, ◌∙◌, arith}
-use Rattle.std.specs.Result.{is_ok, IsOk}
-use Rattle.std.proofs.lemmas.Bool.{false≢true}
+use Rattle.std.proofs.Common.{ℕ, ◌+◌, ◌-◌, ◌*◌, ◌≤◌, ◌<◌, ◌≡◌, true, false, None, Some, Result, Ok, Err, MatchResult, OnOk, OnErr, List, [], length, take, refl, ap, ◌∙◌, arith}
 use Rattle.std.proofs.lemmas.Bool.Decides.{nat_tests}
-use borrow.Author.Tests.{lt-ltb, le-ltb}
+use borrow.Author.Tests.{lt-ltb}
+use borrow.Rule.Slice.PartMut.{mid_of, put_mid}
+use Rattle.std.proofs.Math.ListN.{length-take, length-drop}
+use Rattle.std.proofs.Math.Seq.{length-take-le}
 use Rattle.word.proofs.Sums.{tabulate-length}
 use Rattle.operation.specs.declared.layout.Settings.{Settings}
 use Rattle.operation.specs.declared.layout.Spaces.{Spaces}
@@ -17,6 +18,7 @@ use Rattle.case_frame.proofs.Laws.{BytesLine, frame_line}
 use Rattle.case_reader.specs.Limits.{most_case_operations, words_room, Fits}
 use Rattle.case_reader.specs.Case.{Progress, lengths_fit, opening, opened, zeros, in_space, with_memory, with_labels, with_operation, stored, line_added}
 use Rattle.case_reader.specs.Buffers.{memory_in, case_in}
+use Rattle.case_reader.proofs.Storage.{put_front}
 use Rattle.case_reader.specs.declared.buffers.Buffers.{Buffers}
 use Rattle.case_reader.specs.declared.line.BadLine.{BadLine}
 
@@ -69,7 +71,7 @@ module _ (b : Buffers) (s : List ℕ) (target : Target) (space offset count : �
       → OnErr q ((in_space (memory_in b.lengths b.memory) space offset count ≡ false) × (r ≡ b.memory))
       → (n : ℕ) → MatchResult q
       (λ _. line_added n s (frame_of s) (case_in b)
-      ≡ Progress.reading (record { settings = b.settings; budget = b.budget; memory = memory_in b.lengths r; labels = memory_in b.lengths b.labels; list = b.words.items }))
+      ≡ Progress.reading (record { settings = b.settings; budget = b.budget; memory = memory_in b.lengths r; labels = memory_in b.lengths b.labels; list = take (words_per_operation * b.operations) b.words }))
       (λ _. line_added n s (frame_of s) (case_in b) ≡ Progress.bad_line n)
   unfolding line_added case_in with_memory
   in_memory k (Ok u) r x y n = rw (e, k, x.0, x.1)
@@ -80,7 +82,7 @@ module _ (b : Buffers) (s : List ℕ) (target : Target) (space offset count : �
       → OnErr q ((in_space (memory_in b.lengths b.labels) space offset count ≡ false) × (r ≡ b.labels))
       → (n : ℕ) → MatchResult q
       (λ _. line_added n s (frame_of s) (case_in b)
-      ≡ Progress.reading (record { settings = b.settings; budget = b.budget; memory = memory_in b.lengths b.memory; labels = memory_in b.lengths r; list = b.words.items }))
+      ≡ Progress.reading (record { settings = b.settings; budget = b.budget; memory = memory_in b.lengths b.memory; labels = memory_in b.lengths r; list = take (words_per_operation * b.operations) b.words }))
       (λ _. line_added n s (frame_of s) (case_in b) ≡ Progress.bad_line n)
   unfolding line_added case_in with_labels
   in_labels k (Ok u) r x y n = rw (e, k, x.0, x.1)
@@ -91,22 +93,35 @@ module _ (b : Buffers) (s : List ℕ) (e : frame_of s ≡ Some Operation) where
   pub words_line : operation_length ≤ length s
   words_line = let h : length s ≡ operation_length = rw e at (frame_line s) in omega (arith, h)
 
-  -- its words, where there is room for them
-  pub one_more : {E : Type 0} (p : Result Unit E) (q : Result Unit BadLine) → is_ok q ≡ is_ok p → (ws : List ℕ) {ys : List ℕ} → ys ≡ words_on s
-      → (IsOk p ↔ (length b.words.items + length ys ≤ words_room)) → OnOk p (ws ≡ b.words.items ++ ys)
-      → (n : ℕ) → MatchResult q
-      (λ _. line_added n s (frame_of s) (case_in b)
-      ≡ Progress.reading (record { settings = b.settings; budget = b.budget; memory = memory_in b.lengths b.memory; labels = memory_in b.lengths b.labels; list = ws }))
-      (λ _. line_added n s (frame_of s) (case_in b) ≡ Progress.bad_line n)
-  unfolding line_added case_in with_operation operation_count words_on
-  one_more (Ok u) (Ok y) g ws {ys} w v x n =
-      let five : length ys ≡ words_per_operation = ap length w ∙ tabulate-length words_per_operation _ in
-      let few : length b.words.items / words_per_operation < most_case_operations = omega (arith, v.0 refl, b.whole, five) in
-      rw (e, lt-ltb (length b.words.items / words_per_operation) most_case_operations few, x, w)
-  one_more (Err z) (Err y) g ws {ys} w v x n =
-      let five : length ys ≡ words_per_operation = ap length w ∙ tabulate-length words_per_operation _ in
-      let over : length b.words.items + length ys ≤ words_room → ⊥ = λ i. false≢true (v.1 i) in
-      let many : most_case_operations ≤ length b.words.items / words_per_operation = omega (arith, over, b.whole, five) in
-      rw (e, le-ltb (length b.words.items / words_per_operation) most_case_operations many)
-  one_more (Ok u) (Err y) g ws w v x n = absurd (false≢true g)
-  one_more (Err z) (Ok y) g ws w v x n = absurd (false≢true (sym g))
+  module _ (w : length b.words ≡ words_room) where
+    count : operation_count (take (words_per_operation * b.operations) b.words) ≡ b.operations
+    unfolding operation_count
+    count =
+        let few : words_per_operation * b.operations ≤ length b.words = omega (arith, w, b.few) in
+        let e : length (take (words_per_operation * b.operations) b.words) ≡ words_per_operation * b.operations = length-take-le (words_per_operation * b.operations) b.words few in
+        rw e (omega arith)
+
+    -- no room for its words
+    pub full : b.operations ≡ most_case_operations → (n : ℕ) → line_added n s (frame_of s) (case_in b) ≡ Progress.bad_line n
+    unfolding line_added case_in
+    full k n = rw (e, count, k) refl
+
+    module _ (h : b.operations < most_case_operations) where
+      -- the part that they are stored in
+      pub next_part : length (mid_of (words_per_operation * b.operations) (words_per_operation * b.operations + words_per_operation - words_per_operation * b.operations) b.words) ≡ words_per_operation
+      next_part = simp (length-take, length-drop) (omega (arith, w, h))
+
+      -- its words, where there is room for them
+      pub one_more : {ys : List ℕ} → ys ≡ words_on s → (n : ℕ) → line_added n s (frame_of s) (case_in b)
+          ≡ Progress.reading (record {
+            settings = b.settings;
+            budget = b.budget;
+            memory = memory_in b.lengths b.memory;
+            labels = memory_in b.lengths b.labels;
+            list = take (words_per_operation * (b.operations + 1)) (put_mid (words_per_operation * b.operations) (words_per_operation * b.operations + words_per_operation - words_per_operation * b.operations) b.words ys);
+          })
+      unfolding line_added case_in with_operation words_on
+      one_more {ys} y n =
+          let five : length ys ≡ words_per_operation = ap length y ∙ tabulate-length words_per_operation _ in
+          let front = put_front (words_per_operation * (b.operations + 1)) (words_per_operation * b.operations) (words_per_operation * b.operations + words_per_operation - words_per_operation * b.operations) b.words ys (omega (arith, five)) (omega (arith, five)) (omega (arith, w, h)) in
+          rw (e, count, lt-ltb b.operations most_case_operations h, front, y) refl

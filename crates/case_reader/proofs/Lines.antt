@@ -1,8 +1,6 @@
 -- A byte more of a text: what the reader then holds is what the definition says of the longer text.
 use Prim.Native.Nat.{ℕ, ◌+◌, ◌≤◌, ◌<◌, min}
-use Rattle.std.proofs.Common.{None, Result, Ok, Err, OnOk, OnErr, ◌↔◌}
-use Rattle.std.specs.Result.{IsOk}
-use Rattle.arrayvec.specs.ArrayVec.{ArrayVec}
+use Rattle.std.proofs.Common.{None}
 use mathlib.Core.Path.{◌≡◌, refl, sym, ap, ◌∙◌}
 use mathlib.Core.Bool.{Bool, true, false, cond}
 use mathlib.Core.List.{List, [], ◌∷◌, ◌++◌, append-nil, append_assoc}
@@ -10,8 +8,8 @@ use native.Mathlib.Numerals.{add-one}
 use native.Mathlib.Omega.{arith}
 use borrow.Author.Tests.{eq-eqb, ne_eqb, ltb-true, ltb-false}
 use lib.Dec.{eqb, ltb}
-use lib.ListN.{length, take, get_or, length-append, length-take}
-use lib.Seq.{take_all, take-nil, take-append-le, length-take-le, take-suc}
+use lib.ListN.{length, take, set, get_or, length-append, length-take}
+use lib.Seq.{take_all, take-nil, take-append-le, length-take-le, take-suc-set, take-suc}
 use Rattle.case_frame.specs.Frames.{frame_of}
 use Rattle.case_frame.proofs.Laws.{long_bad}
 use Rattle.case_reader.specs.Limits.{line_room}
@@ -81,17 +79,18 @@ cut_line n s p = by (ltb line_room (length s)) refl
 -- ---- what the reader holds after one byte more
 
 -- the reader holds as much of the unfinished line as it has room for
-pub held : (text : List ℕ) (r : Reader) → HasRead text r → length r.line.items ≡ min line_room (length (rest_of [] text))
-held text r h = ap length h.rest ∙ length-take line_room (rest_of [] text)
+pub held : (text : List ℕ) (r : Reader) → HasRead text r → r.line.used ≡ min line_room (length (rest_of [] text))
+held text r h =
+    sym (length-take-le r.line.used r.line.bytes r.line.room) ∙ ap length h.rest ∙ length-take line_room (rest_of [] text)
 
 module _ (text : List ℕ) (r : Reader) (h : HasRead text r) (b : ℕ) where
   pub newline_read : b ≡ newline → {number : ℕ} → number ≡ next_number r.number → {g : Stage}
-      → progress_in g ≡ after_line number r.line.items (progress_in r.stage) → {l : ArrayVec ℕ} → l.items ≡ []
-      → HasRead (text ++ (b ∷ [])) (record { line = l; number = number; stage = g })
+      → progress_in g ≡ after_line number (take r.line.used r.line.bytes) (progress_in r.stage) → {room : 0 ≤ length r.line.bytes}
+      → HasRead (text ++ (b ∷ [])) (record { line = record { bytes = r.line.bytes; used = 0; room = room }; number = number; stage = g })
   unfolding line_read
-  newline_read e {number} k {g} d i =
+  newline_read e {number} k {g} d {room} =
       record {
-        rest = rw (i, rest_more [] text b, eq-eqb b newline e) (sym (take-nil {A = ℕ} line_room));
+        rest = rw (rest_more [] text b, eq-eqb b newline e) (sym (take-nil {A = ℕ} line_room));
         lines =
             rw (lines_more [] text b, eq-eqb b newline e)
             (rw (← k) (ap (λ x. record { count = number; progress = x })
@@ -100,23 +99,28 @@ module _ (text : List ℕ) (r : Reader) (h : HasRead text r) (b : ℕ) where
             ∙ sym (read_more no_line (lines_of [] text) (rest_of [] text)));
       }
 
-  -- a byte more, or none where the room is full
-  pub byte_read : (b ≡ newline → ⊥) → {l : ArrayVec ℕ} {E : Type 0} (q : Result Unit E) → (IsOk q ↔ (length r.line.items < line_room))
-      → OnOk q (l.items ≡ r.line.items ++ (b ∷ [])) → OnErr q (l ≡ r.line) → OnErr q (length r.line.items ≡ line_room) → HasRead (text ++ (b ∷ [])) (record { line = l; number = r.number; stage = r.stage })
-  byte_read e {l} (Ok u) v x y z =
-      let few : length (rest_of [] text) < line_room = omega (arith, held text r h, v.0 refl) in
+  other_lines : (b ≡ newline → ⊥) → (record { count = r.number; progress = progress_in r.stage }) ≡ lines_read no_line (lines_of [] (text ++ (b ∷ [])))
+  other_lines e = rw (lines_more [] text b, ne_eqb b newline e) h.lines
+
+  pub byte_read : (b ≡ newline → ⊥) → length r.line.bytes ≡ line_room → r.line.used < line_room → {room : r.line.used + 1 ≤ length (set r.line.bytes r.line.used b)}
+      → HasRead (text ++ (b ∷ [])) (record { line = record { bytes = set r.line.bytes r.line.used b; used = r.line.used + 1; room = room }; number = r.number; stage = r.stage })
+  byte_read e w k {room} =
+      let few : length (rest_of [] text) < line_room = omega (arith, held text r h, k) in
       let one : length (rest_of [] text ++ (b ∷ [])) ≤ line_room = rw length-append (omega (arith, few)) in
       record {
         rest =
-            rw (x, rest_more [] text b, ne_eqb b newline e, h.rest)
+            rw (rest_more [] text b, ne_eqb b newline e, add-one, take-suc-set r.line.bytes r.line.used b (omega (arith, w, k)), h.rest)
             (ap (λ x. x ++ (b ∷ [])) (take_all line_room (rest_of [] text) (omega (arith, few))) ∙ sym (take_all line_room (rest_of [] text ++ (b ∷ [])) one));
-        lines = rw (lines_more [] text b, ne_eqb b newline e) h.lines;
+        lines = other_lines e;
       }
-  byte_read e {l} (Err i) v x y z =
-      let many : line_room ≤ length (rest_of [] text) = omega (arith, held text r h, z) in
+
+  -- where the room is full
+  pub byte_dropped : (b ≡ newline → ⊥) → line_room ≤ r.line.used → HasRead (text ++ (b ∷ [])) r
+  byte_dropped e k =
+      let many : line_room ≤ length (rest_of [] text) = omega (arith, held text r h, k) in
       record {
-        rest = rw (y, rest_more [] text b, ne_eqb b newline e) (h.rest ∙ sym (take-append-le line_room (rest_of [] text) (b ∷ []) many));
-        lines = rw (lines_more [] text b, ne_eqb b newline e) h.lines;
+        rest = rw (rest_more [] text b, ne_eqb b newline e) (h.rest ∙ sym (take-append-le line_room (rest_of [] text) (b ∷ []) many));
+        lines = other_lines e;
       }
 
 -- ---- a part, byte by byte

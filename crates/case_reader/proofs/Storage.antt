@@ -1,11 +1,11 @@
 -- The rooms of three spaces: zeros, lengths, and a store into one of them.
-use Rattle.std.proofs.Common.{ℕ, suc, ◌+◌, ◌-◌, ◌≤◌, ◌≡◌, Bool, true, false, cond, List, [], ◌∷◌, length, take, drop, set, replicate, leb, append_assoc, refl, ap, sym, ◌∙◌, arith}
+use Rattle.std.proofs.Common.{ℕ, suc, ◌+◌, ◌-◌, ◌≤◌, ◌≡◌, Bool, true, false, cond, List, [], ◌∷◌, ◌++◌, length, take, drop, set, replicate, leb, append_assoc, refl, ap, sym, ◌∙◌, arith}
 use Rattle.std.proofs.lemmas.List.{take-replicate}
 use Rattle.std.proofs.lemmas.List.Edits.{sets, sets-eq, paste_all}
 use Rattle.std.proofs.lemmas.Slice.{put_mid-paste}
-use Rattle.std.proofs.Math.ListN.{length-take, length-drop}
+use Rattle.std.proofs.Math.ListN.{length-append, length-take, length-drop}
 use Rattle.word.proofs.Sums.{tabulate-length}
-use Rattle.std.proofs.Math.Seq.{take-set-lt, length-take-le}
+use Rattle.std.proofs.Math.Seq.{take-set-lt, take-append-le, take_all, length-take-le}
 use borrow.Rule.Slice.PartMut.{put_mid}
 use borrow.Author.Tests.{eqb-true, leb-true}
 use lib.Dec.{eqb}
@@ -80,6 +80,17 @@ put_sets n at k xs ys e h r =
     ∙ sym (append_assoc (take at xs) ys (drop (at + length ys) xs))
     ∙ sym (sets-eq ys xs at (omega arith)))
     ∙ take_sets_in n xs at ys h
+
+-- what stands at the front, up to the part that was written
+pub put_front : (m at k : ℕ) (xs ys : List ℕ) → k ≡ length ys → m ≡ at + length ys → at ≤ length xs → take m (put_mid at k xs ys) ≡ take at xs ++ ys
+put_front m at k xs ys e g h =
+    let l : length (take at xs ++ ys) ≡ m = length-append (take at xs) ys ∙ ap (λ x. x + length ys) (length-take-le at xs h) ∙ sym g in
+    ap (take m)
+    (put_mid-paste at k xs ys ys (length ys) refl (sym e) refl
+    ∙ paste_all xs at ys (length ys) refl
+    ∙ sym (append_assoc (take at xs) ys (drop (at + length ys) xs)))
+    ∙ take-append-le m (take at xs ++ ys) _ (omega (arith, l))
+    ∙ take_all m (take at xs ++ ys) (omega (arith, l))
 
 -- ---- bytes that a line stores, if all lie in the space
 

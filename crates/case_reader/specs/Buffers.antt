@@ -1,6 +1,7 @@
 -- How a case lies in the reader's buffers: each space has the room of the largest.
-use Rattle.std.specs.Prelude.{ℕ, List, take}
+use Rattle.std.specs.Prelude.{ℕ, ◌*◌, List, take}
 use Rattle.operation.specs.Spaces.{Lengths}
+use Rattle.operation.specs.Layout.{words_per_operation}
 use Rattle.machine.specs.Memory.{Memory, spaces}
 use Rattle.case_reader.specs.Case.{Case, Progress}
 use Rattle.operation.specs.declared.layout.Spaces.{Spaces}
@@ -20,7 +21,7 @@ case_in b =
       budget = b.budget;
       memory = memory_in b.lengths b.memory;
       labels = memory_in b.lengths b.labels;
-      list = b.words.items;
+      list = take (words_per_operation * b.operations) b.words;
     }
 
 -- What has been read, as a reader holds it.

@@ -7,7 +7,7 @@ use Rattle.case_reader.specs.declared.stream.Reader.{Reader}
 
 -- The reader holds what the definition says of a text. Of the unfinished line it holds as much as it has room for.
 pub record HasRead (text : List ℕ) (r : Reader) : Type 0 where
-  pub rest : r.line.items ≡ take line_room (rest_of [] text)
+  pub rest : take r.line.used r.line.bytes ≡ take line_room (rest_of [] text)
   pub lines : (record { count = r.number; progress = progress_in r.stage }) ≡ lines_read no_line (lines_of [] text)
 
 -- A part of a text takes the reader from what came before to the longer text.

@@ -7,8 +7,7 @@ ghost use Rattle.case_reader.specs.Case.{Progress, lengths_fit, opened, in_space
 ghost use Rattle.case_reader.specs.Buffers.{memory_in, case_in, progress_in};
 
 use crate::buffers::{Buffers, Room};
-use crate::limits::MOST_CASE_BYTES;
-use arrayvec::ArrayVec;
+use crate::limits::{MOST_CASE_BYTES, MOST_CASE_OPERATIONS, WORDS_ROOM};
 use case_frame::{Frame, Target, frame_of, store_bytes, store_words};
 use operation::layout::{Lengths, REGISTER, Spaces, UNIQUE, WORDS_PER_OPERATION};
 use operation::rules::length_of;
@@ -18,7 +17,7 @@ use word::size::within;
 const MOST_LENGTH: u64 = MOST_CASE_BYTES as u64;
 
 // What has been read: no line yet, lines of a case, or the number of the first bad line.
-#[derive(Drop)]
+#[derive(Clone, Copy)]
 pub enum Stage {
     Nothing,
     Reading(Buffers),
@@ -35,12 +34,7 @@ impl Stage {
         ensures { progress_in self.new ≡ after_line number s.now (progress_in self.old) }
     {
         match self {
-            Stage::Nothing => {
-                *self = match Buffers::open(s) {
-                    Ok(buffers) => Stage::Reading(buffers),
-                    Err(BadLine) => Stage::BadLine(number),
-                };
-            }
+            Stage::Nothing => self.begin(number, s),
             Stage::Reading(buffers) => {
                 if let Err(BadLine) = buffers.add(s) {
                     *self = Stage::BadLine(number);
@@ -48,6 +42,17 @@ impl Stage {
             }
             Stage::BadLine(_) => {}
         }
+    }
+
+    // The first line. It makes buffers, and a function fills its locals with zeros whenever it is called: so no other line comes here.
+    #[inline(never)]
+    fn begin(&mut self, number: u64, s: &[u8])
+        ensures { progress_in self.new ≡ opened number (frame_of s.now) }
+    {
+        *self = match Buffers::open(s) {
+            Ok(buffers) => Stage::Reading(buffers),
+            Err(BadLine) => Stage::BadLine(number),
+        };
     }
 }
 
@@ -75,7 +80,8 @@ impl Buffers {
             budget,
             memory: no_bytes(),
             labels: no_bytes(),
-            words: ArrayVec::new(),
+            words: [0; WORDS_ROOM],
+            operations: 0,
         })
     }
 
@@ -101,11 +107,14 @@ impl Buffers {
                 }
             }
             Frame::Operation => {
-                let mut words = [0; WORDS_PER_OPERATION];
-                store_words(s, &mut words);
-                self.words
-                    .try_extend_from_slice(&words)
-                    .map_err(|_| BadLine)
+                if self.operations == MOST_CASE_OPERATIONS {
+                    return Err(BadLine);
+                }
+                let at = WORDS_PER_OPERATION * self.operations;
+                let end = at + WORDS_PER_OPERATION;
+                store_words(s, &mut self.words[at..end]);
+                self.operations += 1;
+                Ok(())
             }
         }
     }

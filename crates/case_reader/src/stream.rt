@@ -3,14 +3,14 @@ ghost use Rattle.std.specs.Prelude.{◌≡◌, [], ◌∷◌};
 ghost use Rattle.case_reader.specs.Stream.{HasRead, Advanced};
 ghost use Rattle.case_reader.specs.Lines.{next_number};
 
+use crate::buffers::Line;
 use crate::limits::LINE_ROOM;
 use crate::line::Stage;
-use arrayvec::ArrayVec;
 
 // The unfinished line, how many lines were read, and what they said.
-#[derive(Drop)]
+#[derive(Clone, Copy)]
 pub struct Reader {
-    pub line: ArrayVec<u8, LINE_ROOM>,
+    pub line: Line,
     pub number: u64,
     pub stage: Stage,
 }
@@ -24,7 +24,10 @@ impl Reader {
         ensures { HasRead [] result }
     {
         Reader {
-            line: ArrayVec::new(),
+            line: Line {
+                bytes: [0; LINE_ROOM],
+                used: 0,
+            },
             number: 0,
             stage: Stage::Nothing,
         }
@@ -45,11 +48,14 @@ impl Reader {
     {
         if b == NEWLINE {
             self.number = next_number(self.number);
-            self.stage.feed(self.number, self.line.as_slice());
-            self.line.clear();
-        } else {
+            // A copy, since no field of a struct with a ghost field is lent behind a `&mut`.
+            let line = self.line;
+            self.stage.feed(self.number, &line.bytes[..line.used]);
+            self.line.used = 0;
+        } else if self.line.used < LINE_ROOM {
             // Of a line that fills its room, which no frame does, the rest counts no more.
-            let _ = self.line.try_push(b);
+            self.line.bytes[self.line.used] = b;
+            self.line.used += 1;
         }
     }
 }

@@ -15,7 +15,7 @@ ghost use Rattle.case_run.specs.Run.{outcome};
 use arrayvec::ArrayVec;
 use case_reader::buffers::{Buffers, Room};
 use case_run::print_run;
-use operation::layout::{Lengths, Spaces};
+use operation::layout::{Lengths, Spaces, WORDS_PER_OPERATION};
 
 // Runs the case and prints what the run leaves. The run gets copies, so that the reader keeps what it read.
 pub fn run_case<const N: usize>(buffers: &Buffers, out: &mut ArrayVec<u8, N>)
@@ -26,7 +26,7 @@ pub fn run_case<const N: usize>(buffers: &Buffers, out: &mut ArrayVec<u8, N>)
     let mut labels = buffers.labels;
     print_run(
         buffers.settings,
-        buffers.words.as_slice(),
+        &buffers.words[..WORDS_PER_OPERATION * buffers.operations],
         buffers.budget,
         &mut used(&mut memory, buffers.lengths),
         &mut used(&mut labels, buffers.lengths),

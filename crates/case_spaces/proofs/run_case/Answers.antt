@@ -9,4 +9,4 @@ print_run-requires g c = (search rules, (c.used.ensures.fits, (c.used-2.ensures.
 
 pub returns : goal.returns
 unfolding outcome case_in
-returns g c = printed_as (rw (c.used.ensures.held, c.used-2.ensures.held, c.as_slice.ensures.value)) c.print_run.ensures.printed
+returns g c = printed_as (rw (c.used.ensures.held, c.used-2.ensures.held)) c.print_run.ensures.printed

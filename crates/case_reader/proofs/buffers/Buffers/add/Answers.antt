@@ -1,7 +1,7 @@
-use Rattle.std.proofs.Common.{Some, refl, sym, ap, ◌∙◌}
+use Rattle.std.proofs.Common.{Some, sym, ap, arith, ◌∙◌}
 use Rattle.std.proofs.lemmas.Result.{err_from_is_err_and}
 use Rattle.case_reader.specs.Buffers.{case_in}
-use Rattle.case_reader.proofs.Feeding.{none_added, opening_added, on_line, in_memory, in_labels, words_line, one_more}
+use Rattle.case_reader.proofs.Feeding.{none_added, opening_added, on_line, in_memory, in_labels, words_line, next_part, full, one_more}
 use Rattle.case_reader.proofs.buffers.Buffers.add.Goals as goal
 
 pub returns-in_err-ok_or-clause-added : goal.returns-in_err-ok_or-clause-added
@@ -34,14 +34,18 @@ returns-in-Labels-clause-added c =
     let e = sym c.frame_of.ensures.answer ∙ c.in_ok-ok_or.ensures.ok_part ∙ ap Some c.in-Bytes.is in
     in_labels c.args.self.now _ _ _ _ _ e c.in-Labels.is _ _ c.store-in-Labels.ensures.ok c.store-in-Labels.ensures.err
 
-pub returns-in-Operation-clause-added : goal.returns-in-Operation-clause-added
-unfolding case_in
-returns-in-Operation-clause-added c =
+pub returns-then-self-eq-MOST_CASE_OPERATIONS-clause-added : goal.returns-then-self-eq-MOST_CASE_OPERATIONS-clause-added
+returns-then-self-eq-MOST_CASE_OPERATIONS-clause-added c =
     let e = sym c.frame_of.ensures.answer ∙ c.in_ok-ok_or.ensures.ok_part ∙ ap Some c.in-Operation.is in
-    let x = c.try_extend_from_slice.ensures in
-    one_more c.args.self.now _ e _ _ c.map_err.ensures.variant _ c.store_words.ensures x.variant x.ok
+    full c.args.self.now _ e (omega arith) c.if-self-eq-MOST_CASE_OPERATIONS.true
 
 pub store_words-requires : goal.store_words-requires
 store_words-requires c =
     let e = sym c.frame_of.ensures.answer ∙ c.in_ok-ok_or.ensures.ok_part ∙ ap Some c.in-Operation.is in
-    (words_line c.args.self.now _ e, refl)
+    (words_line c.args.self.now _ e, next_part c.args.self.now _ e (omega arith) (omega (arith, c.if-self-eq-MOST_CASE_OPERATIONS.false)))
+
+pub returns-else-self-eq-MOST_CASE_OPERATIONS-clause-added : goal.returns-else-self-eq-MOST_CASE_OPERATIONS-clause-added
+unfolding case_in
+returns-else-self-eq-MOST_CASE_OPERATIONS-clause-added c =
+    let e = sym c.frame_of.ensures.answer ∙ c.in_ok-ok_or.ensures.ok_part ∙ ap Some c.in-Operation.is in
+    one_more c.args.self.now _ e (omega arith) (omega (arith, c.if-self-eq-MOST_CASE_OPERATIONS.false)) c.store_words.ensures

@@ -1,5 +1,4 @@
-use Rattle.std.proofs.Common.{length, ◌%◌, Some, sym, ap, ◌∙◌}
-use Rattle.operation.specs.Layout.{words_per_operation}
+use Rattle.std.proofs.Common.{Some, sym, ap, arith, ◌∙◌}
 use Rattle.std.proofs.lemmas.Result.{err_from_is_err_and}
 use Rattle.case_reader.specs.Buffers.{case_in}
 use Rattle.case_reader.proofs.Feeding.{fits, opened_none, opened_other, opened_bad, opened_case}
@@ -19,11 +18,10 @@ returns-then-not-lengths_fit c =
     λ n. opened_bad n _ _ _ _ e (sym c.lengths_fit.ensures ∙ c.if-not-lengths_fit.true)
 
 pub invariant_of-result : goal.invariant_of-result
-invariant_of-result c = record { fits = fits _ (sym c.lengths_fit.ensures ∙ c.if-not-lengths_fit.false); whole = ap (λ l. length l % words_per_operation) c.new.ensures }
+invariant_of-result c = record { fits = fits _ (sym c.lengths_fit.ensures ∙ c.if-not-lengths_fit.false); few = omega arith }
 
 pub returns : goal.returns
 unfolding case_in
 returns c =
     let e = sym c.frame_of.ensures.answer ∙ c.in_ok-settings.ensures.ok_part ∙ ap Some c.in-Opening.is in
-    let none = c.new.ensures in
-    λ n. rw none (opened_case n _ _ _ _ e (sym c.lengths_fit.ensures ∙ c.if-not-lengths_fit.false) _ _ c.no_bytes.ensures c.no_bytes-2.ensures)
+    λ n. opened_case n _ _ _ _ e (sym c.lengths_fit.ensures ∙ c.if-not-lengths_fit.false) _ _ c.no_bytes.ensures c.no_bytes-2.ensures
