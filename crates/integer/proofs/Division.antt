@@ -1,5 +1,5 @@
 -- Signed division and its remainder.
-use Rattle.std.proofs.Common.{◌≡◌, ℕ, zero, suc, ◌-◌, ◌*◌, ◌/◌, ◌%◌, ◌^◌, ◌<◌, ◌≤◌, Bool, true, false, ltb, ℤ, pos, negsuc, ◌+ℤ◌, ◌*ℤ◌, neg_ℤ, sym, refl, ap, ◌∙◌, ap₂, le_of_suc-le-suc, div-add-mod', div-le_self, arith, w64, SFits, to_z, of_z, ltb-false, ltb-true}
+use Rattle.std.proofs.Common.{◌≡◌, ℕ, zero, suc, ◌-◌, ◌*◌, ◌/◌, ◌%◌, ◌^◌, ◌<◌, ◌≤◌, Bool, true, false, ltb, ℤ, pos, negsuc, ◌+ℤ◌, ◌*ℤ◌, neg_ℤ, sym, refl, ap, ◌∙◌, ap₂, le_of_suc-le-suc, mod-eq_of_lt, div-add-mod', div-le_self, arith, w64, SFits, to_z, of_z, ltb-false, ltb-true}
 use mathlib.Core.Bool.{xor}
 use native.Mathlib.Nat.{mod-one}
 use lib.IntN.{zero-*ℤ, *ℤ-negsuc, *ℤ_comm, neg_ℤ-+ℤ, neg_ℤ-neg_ℤ}
@@ -8,7 +8,7 @@ use mir.ValLaws.{to_z-of_z}
 use Rattle.integer.specs.Integers.{signed, wrap, negative, with_sign, quotient, remainder}
 use Rattle.integer.specs.Operations.{int_sdiv, int_srem}
 use Rattle.std.specs.Int.{int_wrapping_div}
-use Rattle.word.proofs.Powers.{flipped_low}
+use Rattle.word.proofs.Powers.{size_most, flipped_low}
 use Rattle.integer.proofs.TwosComplement.{signed_low, signed_high, cut}
 
 -- the language's division and remainder are those of the definitions
@@ -110,3 +110,34 @@ module _ (s a b : ℕ) (p q : ℤ) (fp : SFits w64 p) (fq : SFits w64 q) (ep : p
   unfolding int_srem
   srem_is r e =
       e ∙ ap (λ (k : ℤ). wrap s k) (ap₂ rem_z (to_z-of_z w64 p fp ∙ ep) (to_z-of_z w64 q fq ∙ eq) ∙ remainder_is (signed s a) (signed s b))
+
+-- ---- the least 64-bit number by -1
+
+module _ (s a b : ℕ) (hs : s ≤ 8) (ha : a < 256 ^ s) (fp : mag (signed s a) < 2 ^ 63) (fq : mag (signed s b) < 2 ^ 63) where
+  read_back : (z : ℤ) → mag z < 2 ^ 63 → (n : ℕ) → of_z w64 z ≡ n → z ≡ to_z w64 n
+  read_back z f n e = sym (to_z-of_z w64 z (record { sfits = f })) ∙ ap (λ (k : ℕ). to_z w64 k) e
+
+  -- it is the least value of size 8, and the quotient
+  pub sdiv_least : of_z w64 (signed s a) ≡ 9223372036854775808 → of_z w64 (signed s b) ≡ 18446744073709551615 → int_sdiv s a b ≡ a
+  unfolding int_sdiv wrap
+  sdiv_least ea eb =
+      ap (λ (k : ℤ). wrap s k) (sym (quotient_is (signed s a) (signed s b)) ∙ ap₂ quot_z least (read_back (signed s b) fq 18446744073709551615 eb))
+      ∙ ap (λ (n : ℕ). n % 256 ^ s) is_a ∙ mod-eq_of_lt ha
+    where
+      least : signed s a ≡ negsuc 9223372036854775807
+      least = read_back (signed s a) fp 9223372036854775808 ea
+
+      by : (t : Bool) → ltb (2 * a) (256 ^ s) ≡ t → 9223372036854775808 ≡ a
+      by true e =
+          let w : pos a ≡ negsuc 9223372036854775807 = sym (signed_low s a (ltb-true _ _ e)) ∙ least in
+          let v : ◌≡◌ {A = ℕ} 0 1 = cc in
+          omega arith
+      by false e =
+          let g : 256 ^ s ≤ 2 * a = ltb-false _ _ e in
+          let w : negsuc (256 ^ s - 1 - a) ≡ negsuc 9223372036854775807 = sym (signed_high s a g ha) ∙ least in
+          let v : 256 ^ s - 1 - a ≡ 9223372036854775807 = cc in
+          let m : 256 ^ s ≤ 2 ^ 64 = size_most s hs in
+          omega arith
+
+      is_a : 9223372036854775808 ≡ a
+      is_a = by (ltb (2 * a) (256 ^ s)) refl

@@ -82,7 +82,9 @@ pub fn right(size: Size, a: u64, b: u64) -> u64
     }
 }
 
-// The least 64-bit number by -1 is the one quotient that does not fit; `wrapping_div` gives that number again.
+// The least 64-bit number by -1 is the one quotient that does not fit; `wrapping_div` gives that number again, and by
+// `sdiv_least` so does `int_sdiv`: a test for it is proved too.
+#[tactic(auto, using(crate::proofs::Division::sdiv_least))]
 pub fn div(size: Size, a: u64, b: u64) -> u64
     requires { (a < 256 ^ size.bytes) × (b < 256 ^ size.bytes) × (0 < b) }
     ensures { result ≡ int_sdiv size.bytes a b }

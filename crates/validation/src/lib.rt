@@ -65,7 +65,7 @@ pub fn settings_in_range(settings: Settings) -> bool
 }
 
 // Each wordsize is 1 to 8.
-#[tactic(auto, unfolding(crate::specs::Verdict::wordsizes_in_range))]
+#[tactic(auto, unfolding(crate::specs::Verdict::wordsizes_in_range, word::specs::Word::is_size))]
 fn wordsizes_in_range(wordsizes: Wordsizes) -> bool
     ensures { result ≡ wordsizes_in_range wordsizes }
 {
