@@ -12,9 +12,10 @@ held s = spaces s.unique.now s.register.now s.ram.now
 abbrev pub lent : Spaces (MutBor (List ℕ)) → Memory
 lent s = spaces s.unique.now s.register.now s.ram.now
 
--- It is the same buffer still, whatever it holds.
+-- It is the same buffer still, at the same place, whatever it holds.
 pub record SameBuffer (before after : MutBor (List ℕ)) : Type 0 where
   pub reference : after.ghost_name ≡ before.ghost_name
+  pub place : after.ref_ptr ≡ before.ref_ptr
   pub size : length after.now ≡ length before.now
 
 -- So are all three.

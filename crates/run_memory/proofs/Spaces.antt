@@ -86,13 +86,13 @@ pub same_none : {a : Spaces (MutBor (List ℕ))} → SameBuffers a a
 same_none = record { unique = none; register = none; ram = none }
   where
     none : {a : MutBor (List ℕ)} → SameBuffer a a
-    none = record { reference = refl; size = refl }
+    none = record { reference = refl; place = refl; size = refl }
 
 pub same_still : {a b c : Spaces (MutBor (List ℕ))} → SameBuffers a b → SameBuffers b c → SameBuffers a c
 same_still f g = record { unique = still f.unique g.unique; register = still f.register g.register; ram = still f.ram g.ram }
   where
     still : {a b c : MutBor (List ℕ)} → SameBuffer a b → SameBuffer b c → SameBuffer a c
-    still f g = record { reference = g.reference ∙ f.reference; size = g.size ∙ f.size }
+    still f g = record { reference = g.reference ∙ f.reference; place = g.place ∙ f.place; size = g.size ∙ f.size }
 
 pub same_lengths : {a b : Spaces (MutBor (List ℕ))} → SameBuffers a b → lengths_of (lent b) ≡ lengths_of (lent a)
 unfolding lengths_of
