@@ -10,6 +10,7 @@ use Rattle.case_reader.specs.Stream.{HasRead}
 use Rattle.case_reader.specs.declared.buffers.Buffers.{Buffers}
 use Rattle.case_reader.specs.declared.line.Stage.TheVariants.{Nothing, Reading, BadLine}
 use Rattle.case_reader.specs.declared.stream.Reader.{Reader}
+use Rattle.std.proofs.Math.Seq.{length-take-le}
 use Rattle.case_reader.proofs.Lines.{held}
 use Rattle.case_run.specs.Run.{outcome}
 use Rattle.case_output.specs.Output.{bad_text, printed, printed_after, output_of}
@@ -24,6 +25,10 @@ printed_rest : (n : ℕ) (c : Case) (q : List ℕ) {held : ℕ} → held ≡ min
 unfolding printed
 printed_rest n c [] e z = absurd (z (omega (arith, e)))
 printed_rest n c (b ∷ s) e z = refl
+
+-- how much the reader holds of the unfinished line
+held_used : {text : List ℕ} (r : Reader) → HasRead text r → r.line.used ≡ min line_room (length (rest_of [] text))
+held_used r h = sym (length-take-le r.line.used r.line.bytes r.line.room) ∙ held h
 
 module _ (text : List ℕ) (r : Reader) (h : HasRead text r) where
   read_printed : output_of text ≡ printed (rest_of [] text) r.number (progress_in r.stage)
@@ -46,9 +51,9 @@ module _ (text : List ℕ) (r : Reader) (h : HasRead text r) where
     pub run-printed : {b : Buffers} → r.stage ≡ Reading b → r.line.used ≡ 0 → Appended before (outcome_text (outcome (case_in b))) after
         → Appended before (output_of text) after
     unfolding progress_in
-    run-printed {b} e z p = by (read_printed ∙ rw e (printed_whole r.number (case_in b) (rest_of [] text) (held text r h) z)) p
+    run-printed {b} e z p = by (read_printed ∙ rw e (printed_whole r.number (case_in b) (rest_of [] text) (held_used r h) z)) p
 
     pub rest_printed : {b : Buffers} → r.stage ≡ Reading b → (r.line.used ≡ 0 → ⊥) → {k : ℕ} → k ≡ next_number r.number → Appended before (bad_text k) after
         → Appended before (output_of text) after
     unfolding progress_in
-    rest_printed {b} e z k p = by (read_printed ∙ rw (e, k) (printed_rest r.number (case_in b) (rest_of [] text) (held text r h) z)) p
+    rest_printed {b} e z k p = by (read_printed ∙ rw (e, k) (printed_rest r.number (case_in b) (rest_of [] text) (held_used r h) z)) p

@@ -8,7 +8,7 @@ use native.Mathlib.Numerals.{add-one}
 use native.Mathlib.Omega.{arith}
 use borrow.Author.Tests.{eq-eqb, ne_eqb, ltb-true, ltb-false}
 use lib.Dec.{eqb, ltb}
-use lib.ListN.{length, take, set, get_or, length-append, length-take}
+use lib.ListN.{length, take, set, get_or, length-append, length-take, length-set}
 use lib.Seq.{take_all, take-nil, take-append-le, length-take-le, take-suc-set, take-suc}
 use Rattle.case_frame.specs.Frames.{frame_of}
 use Rattle.case_frame.proofs.Laws.{long_bad}
@@ -16,7 +16,7 @@ use Rattle.case_reader.specs.Limits.{line_room}
 use Rattle.case_reader.specs.Case.{Progress, line_added, after_line}
 use Rattle.case_reader.specs.Lines.{newline, lines_of, rest_of, LinesRead, next_number, no_line, line_read, lines_read}
 use Rattle.case_reader.specs.Buffers.{progress_in}
-use Rattle.case_reader.specs.Stream.{HasRead, Advanced}
+use Rattle.case_reader.specs.Stream.{Says, HasRead}
 use Rattle.case_reader.specs.declared.line.Stage.{Stage}
 use Rattle.case_reader.specs.declared.stream.Reader.{Reader}
 
@@ -78,46 +78,43 @@ cut_line n s p = by (ltb line_room (length s)) refl
 
 -- ---- what the reader holds after one byte more
 
--- the reader holds as much of the unfinished line as it has room for
-pub held : (text : List ℕ) (r : Reader) → HasRead text r → r.line.used ≡ min line_room (length (rest_of [] text))
-held text r h =
-    sym (length-take-le r.line.used r.line.bytes r.line.room) ∙ ap length h.rest ∙ length-take line_room (rest_of [] text)
+-- as much of the unfinished line as there is room for
+pub held : {text line : List ℕ} {number : ℕ} {stage : Stage} → Says text line number stage → length line ≡ min line_room (length (rest_of [] text))
+held {text} h = ap length h.rest ∙ length-take line_room (rest_of [] text)
 
-module _ (text : List ℕ) (r : Reader) (h : HasRead text r) (b : ℕ) where
-  pub newline_read : b ≡ newline → {number : ℕ} → number ≡ next_number r.number → {g : Stage}
-      → progress_in g ≡ after_line number (take r.line.used r.line.bytes) (progress_in r.stage) → {room : 0 ≤ length r.line.bytes}
-      → HasRead (text ++ (b ∷ [])) (record { line = record { bytes = r.line.bytes; used = 0; room = room }; number = number; stage = g })
+module _ {text line : List ℕ} {number : ℕ} {stage : Stage} (h : Says text line number stage) (b : ℕ) where
+  newline_read : b ≡ newline → {n : ℕ} → n ≡ next_number number → {g : Stage} → progress_in g ≡ after_line (next_number number) line (progress_in stage)
+      → Says (text ++ (b ∷ [])) [] n g
   unfolding line_read
-  newline_read e {number} k {g} d {room} =
+  newline_read e {n} k {g} d =
       record {
         rest = rw (rest_more [] text b, eq-eqb b newline e) (sym (take-nil {A = ℕ} line_room));
         lines =
-            rw (lines_more [] text b, eq-eqb b newline e)
-            (rw (← k) (ap (λ x. record { count = number; progress = x })
-            (d ∙ ap (λ x. after_line number x (progress_in r.stage)) h.rest ∙ cut_line number (rest_of [] text) (progress_in r.stage)))
+            rw (lines_more [] text b, eq-eqb b newline e, k)
+            (ap (λ x. record { count = next_number number; progress = x })
+            (d ∙ ap (λ x. after_line (next_number number) x (progress_in stage)) h.rest ∙ cut_line (next_number number) (rest_of [] text) (progress_in stage))
             ∙ ap (λ x. line_read x (rest_of [] text)) h.lines
             ∙ sym (read_more no_line (lines_of [] text) (rest_of [] text)));
       }
 
-  other_lines : (b ≡ newline → ⊥) → (record { count = r.number; progress = progress_in r.stage }) ≡ lines_read no_line (lines_of [] (text ++ (b ∷ [])))
+  other_lines : (b ≡ newline → ⊥) → (record { count = number; progress = progress_in stage }) ≡ lines_read no_line (lines_of [] (text ++ (b ∷ [])))
   other_lines e = rw (lines_more [] text b, ne_eqb b newline e) h.lines
 
-  pub byte_read : (b ≡ newline → ⊥) → length r.line.bytes ≡ line_room → r.line.used < line_room → {room : r.line.used + 1 ≤ length (set r.line.bytes r.line.used b)}
-      → HasRead (text ++ (b ∷ [])) (record { line = record { bytes = set r.line.bytes r.line.used b; used = r.line.used + 1; room = room }; number = r.number; stage = r.stage })
-  byte_read e w k {room} =
-      let few : length (rest_of [] text) < line_room = omega (arith, held text r h, k) in
+  byte_read : (b ≡ newline → ⊥) → length line < line_room → Says (text ++ (b ∷ [])) (line ++ (b ∷ [])) number stage
+  byte_read e k =
+      let few : length (rest_of [] text) < line_room = omega (arith, held h, k) in
       let one : length (rest_of [] text ++ (b ∷ [])) ≤ line_room = rw length-append (omega (arith, few)) in
       record {
         rest =
-            rw (rest_more [] text b, ne_eqb b newline e, add-one, take-suc-set r.line.bytes r.line.used b (omega (arith, w, k)), h.rest)
+            rw (rest_more [] text b, ne_eqb b newline e, h.rest)
             (ap (λ x. x ++ (b ∷ [])) (take_all line_room (rest_of [] text) (omega (arith, few))) ∙ sym (take_all line_room (rest_of [] text ++ (b ∷ [])) one));
         lines = other_lines e;
       }
 
   -- where the room is full
-  pub byte_dropped : (b ≡ newline → ⊥) → line_room ≤ r.line.used → HasRead (text ++ (b ∷ [])) r
+  byte_dropped : (b ≡ newline → ⊥) → line_room ≤ length line → Says (text ++ (b ∷ [])) line number stage
   byte_dropped e k =
-      let many : line_room ≤ length (rest_of [] text) = omega (arith, held text r h, k) in
+      let many : line_room ≤ length (rest_of [] text) = omega (arith, held h, k) in
       record {
         rest = rw (rest_more [] text b, ne_eqb b newline e) (h.rest ∙ sym (take-append-le line_room (rest_of [] text) (b ∷ []) many));
         lines = other_lines e;
@@ -125,13 +122,41 @@ module _ (text : List ℕ) (r : Reader) (h : HasRead text r) (b : ℕ) where
 
 -- ---- a part, byte by byte
 
--- the bytes before a place, and the one there
-pub read_one : (part : List ℕ) (i : ℕ) → i < length part → {r q s : Reader} → Advanced (take i part) r q → Advanced (get_or part i 0 ∷ []) q s
-    → Advanced (take (i + 1) part) r s
-read_one part i k a b text h = rw (add-one, take-suc part i 0 k, ← append_assoc text (take i part) (get_or part i 0 ∷ [])) (b (text ++ take i part) (a text h))
+-- the first i bytes of a part were read, with `used` bytes of the line in the buffer
+pub record ReadSo (part : List ℕ) (i : ℕ) (before : Reader) (used : ℕ) (after : Reader) : Type 0 where
+  pub room : used ≤ line_room
+  pub whole : length after.line.bytes ≡ line_room
+  pub says : (text : List ℕ) → HasRead text before → Says (text ++ take i part) (take used after.line.bytes) after.number after.stage
 
-pub read_none : (r : Reader) → Advanced [] r r
-read_none r text h = rw append-nil h
+pub read_none : (part : List ℕ) (r : Reader) → length r.line.bytes ≡ line_room → ReadSo part 0 r r.line.used r
+read_none part r w = record { room = omega (arith, w, r.line.room); whole = w; says = λ text h. rw append-nil h }
 
-pub read_all : (part : List ℕ) (i : ℕ) → length part ≤ i → {r q : Reader} → Advanced (take i part) r q → Advanced part r q
-read_all part i k a = rw (take_all i part k) at a
+module _ {part : List ℕ} {i : ℕ} {r : Reader} {used : ℕ} {q : Reader} (s : ReadSo part i r used q) (k : i < length part) where
+  one : {line : List ℕ} {number : ℕ} {stage : Stage} → (text : List ℕ) → Says ((text ++ take i part) ++ (get_or part i 0 ∷ [])) line number stage
+      → Says (text ++ take (i + 1) part) line number stage
+  one text h = rw (add-one, take-suc part i 0 k, ← append_assoc text (take i part) (get_or part i 0 ∷ [])) h
+
+  pub read_newline : get_or part i 0 ≡ newline → (z : Reader) → length z.line.bytes ≡ line_room → z.number ≡ next_number q.number
+      → progress_in z.stage ≡ after_line (next_number q.number) (take used q.line.bytes) (progress_in q.stage) → ReadSo part (i + 1) r 0 z
+  read_newline e z w n d = record { room = omega arith; whole = w; says = λ text h. one text (newline_read (s.says text h) _ e n d) }
+
+  pub read_byte : (get_or part i 0 ≡ newline → ⊥) → used < line_room → (z : Reader)
+      → z.line.bytes ≡ set q.line.bytes used (get_or part i 0) → z.number ≡ q.number → z.stage ≡ q.stage → ReadSo part (i + 1) r (used + 1) z
+  read_byte e f z x y t =
+      let l : length (take used q.line.bytes) ≡ used = length-take-le used q.line.bytes (omega (arith, s.whole, f)) in
+      record {
+        room = omega (arith, f);
+        whole = rw x (simp length-set s.whole);
+        says = λ text h.
+            one text
+            (rw (x, y, t, add-one, take-suc-set q.line.bytes used (get_or part i 0) (omega (arith, s.whole, f))) (byte_read (s.says text h) _ e (omega (arith, l, f))));
+      }
+
+  pub read_past : (get_or part i 0 ≡ newline → ⊥) → line_room ≤ used → ReadSo part (i + 1) r used q
+  read_past e f =
+      let l : length (take used q.line.bytes) ≡ used = length-take-le used q.line.bytes (omega (arith, s.whole, s.room)) in
+      record { room = s.room; whole = s.whole; says = λ text h. one text (byte_dropped (s.says text h) _ e (omega (arith, l, f))) }
+
+pub read_all : (part : List ℕ) (i : ℕ) → length part ≤ i → {r : Reader} {used : ℕ} {q : Reader} → ReadSo part i r used q
+    → (text : List ℕ) → HasRead text r → Says (text ++ part) (take used q.line.bytes) q.number q.stage
+read_all part i k s text h = rw (take_all i part k) at (s.says text h)

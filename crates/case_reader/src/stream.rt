@@ -1,5 +1,8 @@
 // A text that comes in parts.
-ghost use Rattle.std.specs.Prelude.{◌≡◌, [], ◌∷◌};
+ghost use Rattle.std.specs.Prelude.{◌≡◌, ◌≤◌, [], take};
+ghost use Rattle.case_reader.specs.Limits.{line_room};
+ghost use Rattle.case_reader.specs.Case.{after_line};
+ghost use Rattle.case_reader.specs.Buffers.{progress_in};
 ghost use Rattle.case_reader.specs.Stream.{HasRead, Advanced};
 ghost use Rattle.case_reader.specs.Lines.{next_number};
 
@@ -33,30 +36,37 @@ impl Reader {
         }
     }
 
-    // A part of the text, of any length.
+    // A part of the text, of any length. How much of the line there is stands in a local while bytes are written: as a field beside
+    // them it would be read and written anew at each.
     pub fn read(&mut self, part: &[u8])
         ensures { Advanced part.now self.old self.new }
     {
+        let mut used = self.line.used;
         for b in part {
-            self.push(*b);
+            if *b == NEWLINE {
+                self.end_line(used);
+                used = 0;
+            } else if used < LINE_ROOM {
+                // Of a line that fills its room, which no frame does, the rest counts no more.
+                self.line.bytes[used] = *b;
+                used += 1;
+            }
         }
+        self.line.used = used;
     }
 
-    // One byte of the text.
-    fn push(&mut self, b: u8)
-        ensures { Advanced (b ∷ []) self.old self.new }
+    // A newline behind the first `used` bytes of the line.
+    fn end_line(&mut self, used: usize)
+        requires { used ≤ line_room }
+        ensures line { self.new.line ≡ self.old.line }
+        ensures number { self.new.number ≡ next_number self.old.number }
+        ensures stage { progress_in self.new.stage
+            ≡ after_line (next_number self.old.number) (take used self.old.line.bytes) (progress_in self.old.stage) }
     {
-        if b == NEWLINE {
-            self.number = next_number(self.number);
-            // A copy, since no field of a struct with a ghost field is lent behind a `&mut`.
-            let line = self.line;
-            self.stage.feed(self.number, &line.bytes[..line.used]);
-            self.line.used = 0;
-        } else if self.line.used < LINE_ROOM {
-            // Of a line that fills its room, which no frame does, the rest counts no more.
-            self.line.bytes[self.line.used] = b;
-            self.line.used += 1;
-        }
+        self.number = next_number(self.number);
+        // A copy, since no field of a struct with a ghost field is lent behind a `&mut`.
+        let line = self.line;
+        self.stage.feed(self.number, &line.bytes[..used]);
     }
 }
 
