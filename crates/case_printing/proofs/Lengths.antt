@@ -1,9 +1,14 @@
 -- How long the texts are.
 use Rattle.std.proofs.Common.{◌≡◌, refl, ℕ, zero, suc, ◌*◌, ◌/◌, ◌≤◌, List, length, get_or, drop, length-append, length-take, arith}
-use native.Mathlib.Nat.{mul-suc}
+use native.Mathlib.Nat.{mul-suc, mul-zero}
 use Rattle.case_printing.specs.Text.{concatenated, hex_text, word_line, log_text, bytes_text, dump_line, line_bytes, space_lines}
 use Rattle.case_printing.specs.Text.{word_line_length, dump_length, bytes_per_line, line_count}
 use Rattle.case_hexadecimal.specs.Digits.{byte_digits}
+
+length-concatenated : (m n : ℕ) (f : ℕ → List ℕ) → ((i : ℕ) → length (f i) ≡ m) → length (concatenated n f) ≡ m * n
+unfolding concatenated
+length-concatenated m zero f h = rw mul-zero
+length-concatenated m (suc n) f h = rw (length-append, mul-suc) (omega (arith, length-concatenated m n f h, h n))
 
 pub concatenated_most : (m n : ℕ) (f : ℕ → List ℕ) → ((i : ℕ) → length (f i) ≤ m) → length (concatenated n f) ≤ m * n
 unfolding concatenated
@@ -19,19 +24,17 @@ pub length_word : (w : ℕ) → length (word_line w) ≡ word_line_length
 unfolding word_line
 length_word w = rw (length-append, length_hex)
 
-pub length_log : (words : List ℕ) → length (log_text words) ≤ word_line_length * length words
+pub length_log : (words : List ℕ) → length (log_text words) ≡ word_line_length * length words
 unfolding log_text
-length_log words =
-    concatenated_most word_line_length (length words) (λ i. word_line (get_or words i 0)) (λ i. omega (arith, length_word (get_or words i 0)))
+length_log words = length-concatenated word_line_length (length words) (λ i. word_line (get_or words i 0)) (λ i. length_word (get_or words i 0))
 
-pub length_bytes : (s : List ℕ) → length (bytes_text s) ≤ byte_digits * length s
+pub length_bytes : (s : List ℕ) → length (bytes_text s) ≡ byte_digits * length s
 unfolding bytes_text
-length_bytes s =
-    concatenated_most byte_digits (length s) (λ i. hex_text byte_digits (get_or s i 0)) (λ i. omega (arith, length_hex byte_digits (get_or s i 0)))
+length_bytes s = length-concatenated byte_digits (length s) (λ i. hex_text byte_digits (get_or s i 0)) (λ i. length_hex byte_digits (get_or s i 0))
 
-length_line : (kind space offset : ℕ) (s : List ℕ) → length (dump_line kind space offset s) ≤ dump_length (length s)
+length_line : (kind space offset : ℕ) (s : List ℕ) → length (dump_line kind space offset s) ≡ dump_length (length s)
 unfolding dump_line
-length_line kind space offset s = simp (length-append, length_hex) (omega (arith, length_bytes s))
+length_line kind space offset s = simp (length-append, length_hex, length_bytes) (omega arith)
 
 length_line_bytes : (s : List ℕ) (k : ℕ) → length (line_bytes s k) ≤ bytes_per_line
 unfolding line_bytes
