@@ -35,10 +35,10 @@ extern "C" {
  * grows where a call changes, in its parameters or in the words that it takes: a program must then be checked
  * and compiled again, since the linker does not notice. The second grows where a call is added or answers
  * otherwise than before, the third where neither is so. */
-#define UNDRELVOA_VERSION "4.0.2"
+#define UNDRELVOA_VERSION "4.0.3"
 #define UNDRELVOA_VERSION_MAJOR 4
 #define UNDRELVOA_VERSION_MINOR 0
-#define UNDRELVOA_VERSION_PATCH 2
+#define UNDRELVOA_VERSION_PATCH 3
 
 /* Limits. The verdict, the runs and undrelvoa_count_secrets refuse what is beyond them. */
 #define UNDRELVOA_MAX_OPERATIONS 4096   /* operations of a list */
