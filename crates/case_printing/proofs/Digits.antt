@@ -13,7 +13,7 @@ pub digit_listed : (d : ℕ) → d < 16 → get_or (48 ∷ 49 ∷ 50 ∷ 51 ∷ 
 unfolding digit_code
 digit_listed d h = get_or-map-range_with_len digit_code 0 16 d d 0 h (omega arith)
 
-hex_more : (k n : ℕ) → 1 ≤ k → hex_text (k - 1) (n / 16) ++ (digit_code (n % 16) ∷ []) ≡ hex_text k n
+pub hex_more : (k n : ℕ) → 1 ≤ k → hex_text (k - 1) (n / 16) ++ (digit_code (n % 16) ∷ []) ≡ hex_text k n
 unfolding hex_text
 hex_more zero n h = absurd (omega arith)
 hex_more (suc k) n h = let e : suc k - 1 ≡ k = omega arith in rw e

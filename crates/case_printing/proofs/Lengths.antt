@@ -36,7 +36,7 @@ length_line : (kind space offset : ℕ) (s : List ℕ) → length (dump_line kin
 unfolding dump_line
 length_line kind space offset s = simp (length-append, length_hex, length_bytes) (omega arith)
 
-length_line_bytes : (s : List ℕ) (k : ℕ) → length (line_bytes s k) ≤ bytes_per_line
+pub length_line_bytes : (s : List ℕ) (k : ℕ) → length (line_bytes s k) ≤ bytes_per_line
 unfolding line_bytes
 length_line_bytes s k = omega (arith, length-take bytes_per_line (drop (bytes_per_line * k) s))
 

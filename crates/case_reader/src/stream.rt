@@ -63,10 +63,14 @@ impl Reader {
         ensures stage { progress_in self.new.stage
             ≡ after_line (next_number self.old.number) (take used self.old.line.bytes) (progress_in self.old.stage) }
     {
-        self.number = next_number(self.number);
-        // A copy, since no field of a struct with a ghost field is lent behind a `&mut`.
-        let line = self.line;
-        self.stage.feed(self.number, &line.bytes[..used]);
+        let Reader {
+            line,
+            number,
+            stage,
+        } = self;
+        let line = &*line;
+        *number = next_number(*number);
+        stage.feed(*number, &line.bytes[..used]);
     }
 }
 
