@@ -85,7 +85,8 @@ impl Buffers {
         })
     }
 
-    // A line after the first.
+    // A line after the first. Compiled into the loop over bytes, it spreads that loop, and each byte takes a fifth longer.
+    #[inline(never)]
     fn add(&mut self, s: &[u8]) -> Result<(), BadLine>
         ensures added { (n : ℕ) → MatchResult result
             (λ _. line_added n s.now (frame_of s.now) (case_in self.old) ≡ Progress.reading (case_in self.new))
